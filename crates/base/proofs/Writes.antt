@@ -1,0 +1,84 @@
+-- Rows with a run of bits written: each row by itself, a block within one row, and whole rows. Assumes nothing.
+use mathlib.Core.Path.{_≡_, refl, sym, ap, ap₂, _∙_}
+use mathlib.Core.Bool.{Bool, true, false}
+use mathlib.Core.List.{List, [], _∷_, _++_}
+use Prim.Native.Nat.{ℕ, zero, suc, _+_, _-_, _*_, _/_, _%_, _^_, _≤_, _<_, min}
+use native.Mathlib.Nat.{zero-add, suc-add, div-add-mod', le-of-suc-le-suc, not-suc-le-zero}
+use native.Mathlib.Omega.{arith}
+use lib.ListN.{length, getD, set, take, drop, replicate}
+use Rattle.base.specs.Bits.{solid, overlay, withBits}
+use Rattle.base.proofs.Masks.{overlay-none}
+
+-- bits from a up to a are none
+with-none : (b : Bool) (rows : List ℕ) (a : ℕ) → withBits b rows a a ≡ rows
+unfolding withBits
+with-none b [] a = refl
+with-none b (v ∷ rows) a = ap₂ (λ (x : ℕ) (l : List ℕ). x ∷ l) (overlay-none b v (min a 64)) (with-none b rows (a - 64))
+
+pub length-with : (b : Bool) (rows : List ℕ) (a e : ℕ) → length (withBits b rows a e) ≡ length rows
+unfolding withBits
+length-with b [] a e = refl
+length-with b (v ∷ rows) a e = ap suc (length-with b rows (a - 64) (e - 64))
+
+-- each row by itself
+pub getD-with : (b : Bool) (rows : List ℕ) (a e i : ℕ) → i < length rows → getD (withBits b rows a e) i 0 ≡ overlay b (getD rows i 0) (min (a - 64 * i) 64) (min (e - 64 * i) 64)
+unfolding withBits
+getD-with b [] a e i h = absurd (not-suc-le-zero h)
+getD-with b (v ∷ rows) a e zero h =
+    let p : a - 64 * 0 ≡ a = omega arith in
+    let q : e - 64 * 0 ≡ e = omega arith in
+    rw (p, q)
+getD-with b (v ∷ rows) a e (suc i) h =
+    let p : a - 64 - 64 * i ≡ a - 64 * suc i = omega arith in
+    let q : e - 64 - 64 * i ≡ e - 64 * suc i = omega arith in
+    getD-with b rows (a - 64) (e - 64) i (le-of-suc-le-suc h) ∙ rw (p, q)
+
+-- a block within row i writes that row alone
+row-at : (b : Bool) (rows : List ℕ) (i q s : ℕ) → q + s ≤ 64 → withBits b rows (i * 64 + q) (i * 64 + q + s) ≡ set rows i (overlay b (getD rows i 0) q (q + s))
+unfolding withBits
+row-at b [] i q s h = refl
+row-at b (v ∷ rows) zero q s h =
+    let lo : min (0 * 64 + q) 64 ≡ q = omega arith in
+    let hi : min (0 * 64 + q + s) 64 ≡ q + s = omega arith in
+    let a : 0 * 64 + q - 64 ≡ 0 = omega arith in
+    let e : 0 * 64 + q + s - 64 ≡ 0 = omega arith in
+    rw (lo, hi, a, e, with-none b rows 0)
+row-at b (v ∷ rows) (suc i) q s h =
+    let lo : min (suc i * 64 + q) 64 ≡ 64 = omega arith in
+    let hi : min (suc i * 64 + q + s) 64 ≡ 64 = omega arith in
+    let a : suc i * 64 + q - 64 ≡ i * 64 + q = omega arith in
+    let e : suc i * 64 + q + s - 64 ≡ i * 64 + q + s = omega arith in
+    rw (lo, hi, a, e, overlay-none b v 64) (ap (λ (l : List ℕ). v ∷ l) (row-at b rows i q s h))
+
+pub with-row : (b : Bool) (rows : List ℕ) (p s : ℕ) → p % 64 + s ≤ 64 → withBits b rows p (p + s) ≡ set rows (p / 64) (overlay b (getD rows (p / 64) 0) (p % 64) (p % 64 + s))
+with-row b rows p s h =
+    ap (λ (k : ℕ). withBits b rows k (k + s)) (sym (div-add-mod' p 64)) ∙ row-at b rows (p / 64) (p % 64) s h
+
+-- a row all of whose bits are written is solid
+overlay-all : (b : Bool) (v : ℕ) → v < 2 ^ 64 → overlay b v 0 64 ≡ solid b 64
+overlay-all true v h = omega arith
+overlay-all false v h = omega arith
+
+-- the first k rows, all of them
+with-front : (b : Bool) (rows : List ℕ) (k : ℕ) → ((j : ℕ) → getD rows j 0 < 2 ^ 64) → k ≤ length rows
+    → withBits b rows 0 (k * 64) ≡ replicate k (solid b 64) ++ drop k rows
+unfolding withBits
+with-front b rows zero fits h = with-none b rows 0
+with-front b [] (suc k) fits h = absurd (not-suc-le-zero h)
+with-front b (v ∷ rows) (suc k) fits h =
+    let hi : min (suc k * 64) 64 ≡ 64 = omega arith in
+    let e : suc k * 64 - 64 ≡ k * 64 = omega arith in
+    rw (hi, e, overlay-all b v (fits 0)) (ap (λ (l : List ℕ). solid b 64 ∷ l) (with-front b rows k (λ j. fits (suc j)) (le-of-suc-le-suc h)))
+
+-- whole rows from row i on
+pub with-rows : (b : Bool) (rows : List ℕ) (i k : ℕ) → ((j : ℕ) → getD rows j 0 < 2 ^ 64) → i + k ≤ length rows
+    → withBits b rows (i * 64) ((i + k) * 64) ≡ take i rows ++ (replicate k (solid b 64) ++ drop (i + k) rows)
+unfolding withBits
+with-rows b rows zero k fits h = rw (zero-add k) (with-front b rows k fits (omega arith))
+with-rows b [] (suc i) k fits h = absurd (omega arith)
+with-rows b (v ∷ rows) (suc i) k fits h =
+    let lo : min (suc i * 64) 64 ≡ 64 = omega arith in
+    let hi : min ((suc i + k) * 64) 64 ≡ 64 = omega arith in
+    let a : suc i * 64 - 64 ≡ i * 64 = omega arith in
+    let e : (suc i + k) * 64 - 64 ≡ (i + k) * 64 = omega arith in
+    rw (lo, hi, a, e, overlay-none b v 64, suc-add) (ap (λ (l : List ℕ). v ∷ l) (with-rows b rows i k (λ j. fits (suc j)) (omega arith)))

@@ -1,0 +1,16 @@
+use lib.Pow.{shl-exact}
+use native.Mathlib.Nat.{one-mul}
+use native.Mathlib.Omega.{arith}
+use mathlib.Core.Path.{_∙_}
+use borrow.Author.Needs.{needs}
+use Rattle.base.proofs.size.Statement.{statement}
+use Rattle.base.proofs.size.Tie as tie
+
+shl-result : tie.Need-shl-result
+shl-result c = search needs
+
+returns : tie.Need-returns
+returns c = shl-exact {a = 1} 1 (c .args .k) 64 (omega arith) (omega arith) ∙ one-mul _
+
+pub size-spec : {M : Type 1} → statement M
+size-spec = tie.close (tie.spec shl-result returns)

@@ -1,0 +1,4 @@
+pub mod Walk
+pub mod Code
+pub mod Size
+pub mod Bits

@@ -1,0 +1,23 @@
+-- Walks over a range of indices. Every loop of the project is one of them.
+use mathlib.Core.Bool.{Bool, true, false}
+use Prim.Native.Nat.{ℕ, zero, suc}
+
+-- if, for any answer
+abbrev pub pick {ℓ} : {A : Type ℓ} → Bool → A → A → A
+pick true a b = a
+pick false a b = b
+
+-- the first of the n indices from i that p holds of, or i + n where it holds of none
+unfoldable pub first : (ℕ → Bool) → ℕ → ℕ → ℕ
+first p zero i = i
+first p (suc n) i = pick (p i) i (first p n (suc i))
+
+-- whether p holds of each of the n indices from i
+unfoldable pub all : (ℕ → Bool) → ℕ → ℕ → Bool
+all p zero i = true
+all p (suc n) i = pick (p i) (all p n (suc i)) false
+
+-- how many of the n indices from i p holds of
+unfoldable pub count : (ℕ → Bool) → ℕ → ℕ → ℕ
+count p zero i = 0
+count p (suc n) i = pick (p i) (suc (count p n (suc i))) (count p n (suc i))

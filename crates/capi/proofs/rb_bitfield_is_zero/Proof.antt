@@ -1,0 +1,16 @@
+-- `capi::rb_bitfield_is_zero` meets its contract: the answer, and its flag. Assumes nothing.
+use borrow.Author.Needs.{needs}
+use Rattle.capi.proofs.rb_bitfield_is_zero.Statement.{statement}
+use Rattle.capi.proofs.rb_bitfield_is_zero.Tie as tie
+
+is-zero-requires : tie.Need-is-zero-requires
+is-zero-requires c κs = search needs
+
+returns : tie.Need-returns
+returns c = rw (← c .before .is-zero .ensures, c .if1 .taken)
+
+returns-2 : tie.Need-returns-2
+returns-2 c = rw (← c .before .is-zero .ensures, c .if1 .left)
+
+pub rb-bitfield-is-zero-spec : {M : Type 1} → statement M
+rb-bitfield-is-zero-spec = tie.close (tie.spec is-zero-requires returns returns-2)

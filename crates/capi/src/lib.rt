@@ -1,0 +1,127 @@
+// The calls for programs in C and Rust: numbers and slices alone, further results through lent numbers, which every call
+// writes. Each wrapper states its call's own definition again.
+ghost use mathlib.Core.Path.{_≡_};
+ghost use Rattle.base.specs.Code.{out};
+ghost use Rattle.base.specs.Size.{hugeOrder};
+ghost use Rattle.row.specs.Row.{numbers, firstZeros};
+ghost use Rattle.bitfield.specs.Calls as spec;
+ghost use Rattle.capi.specs.Flag.{says, flagged};
+use row::Found;
+
+// The lowest clear block of a row, and the row with the block set.
+#[no_mangle]
+pub extern "C" fn rb_first_zeros_aligned(
+    v: u64,
+    order: usize,
+    place: &mut usize,
+    row: &mut u64,
+) -> u32
+    ensures { λ r. ⌜ numbers r (now (place .exit)) (now (row .exit)) ≡ firstZeros v order ⌝ }
+{
+    let found = row::first_zeros_aligned(v, order);
+    match found {
+        Found::At(p, w) => {
+            *place = p;
+            *row = w;
+            0
+        }
+        Found::Full => {
+            *place = 0;
+            *row = 0;
+            7
+        }
+        Found::BadOrder => {
+            *place = 0;
+            *row = 0;
+            4
+        }
+    }
+}
+
+// Overwrites the bits from start up to end.
+#[no_mangle]
+pub extern "C" fn rb_bitfield_set(rows: &mut [u64], start: usize, end: usize, value: u32) -> u32
+    ensures { λ r. ⌜ out r (now (rows .exit)) ≡ spec.set hugeOrder (now (rows .entry)) start end (says value) ⌝ }
+{
+    bitfield::set(rows, start, end, value != 0)
+}
+
+// Turns the bits of a block, where all are as expected.
+#[no_mangle]
+pub extern "C" fn rb_bitfield_toggle(
+    rows: &mut [u64],
+    place: usize,
+    order: usize,
+    expected: u32,
+) -> u32
+    ensures { λ r. ⌜ out r (now (rows .exit)) ≡ spec.toggle hugeOrder (now (rows .entry)) place order (says expected) ⌝ }
+{
+    bitfield::toggle(rows, place, order, expected != 0)
+}
+
+// Whether the bits of a block are all clear.
+#[no_mangle]
+pub extern "C" fn rb_bitfield_is_zero(
+    rows: &[u64],
+    place: usize,
+    order: usize,
+    yes: &mut u32,
+) -> u32
+    ensures { λ r. ⌜ out r (now (yes .exit)) ≡ flagged (spec.isZero hugeOrder (now (rows .entry)) place order) ⌝ }
+{
+    let answer = bitfield::is_zero(rows, place, order);
+    if answer.yes {
+        *yes = 1;
+        return answer.code;
+    }
+    *yes = 0;
+    answer.code
+}
+
+// The first clear block in the search order, with nothing written.
+#[no_mangle]
+pub extern "C" fn rb_bitfield_first_zeros(
+    rows: &[u64],
+    start_row: usize,
+    order: usize,
+    place: &mut usize,
+) -> u32
+    ensures { λ r. ⌜ spec.placed r (now (place .exit)) ≡ spec.firstZeros hugeOrder (now (rows .entry)) «start_row» order ⌝ }
+{
+    let found = bitfield::first_zeros(rows, start_row, order);
+    *place = found.place;
+    found.code
+}
+
+// Sets the first clear block in the search order.
+#[no_mangle]
+pub extern "C" fn rb_bitfield_set_first_zeros(
+    rows: &mut [u64],
+    start_row: usize,
+    order: usize,
+    place: &mut usize,
+) -> u32
+    ensures { λ r. ⌜ out (spec.placed r (now (place .exit))) (now (rows .exit)) ≡ spec.setFirstZeros hugeOrder (now (rows .entry)) «start_row» order ⌝ }
+{
+    let found = bitfield::set_first_zeros(rows, start_row, order);
+    *place = found.place;
+    found.code
+}
+
+// Overwrites every bit.
+#[no_mangle]
+pub extern "C" fn rb_bitfield_fill(rows: &mut [u64], value: u32) -> u32
+    ensures { λ r. ⌜ out r (now (rows .exit)) ≡ spec.fill hugeOrder (now (rows .entry)) (says value) ⌝ }
+{
+    bitfield::fill(rows, value != 0)
+}
+
+// The number of clear bits.
+#[no_mangle]
+pub extern "C" fn rb_bitfield_count_zeros(rows: &[u64], zeros: &mut usize) -> u32
+    ensures { λ r. ⌜ spec.counted r (now (zeros .exit)) ≡ spec.countZeros hugeOrder (now (rows .entry)) ⌝ }
+{
+    let counted = bitfield::count_zeros(rows);
+    *zeros = counted.zeros;
+    counted.code
+}

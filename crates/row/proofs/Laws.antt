@@ -1,0 +1,118 @@
+-- What a caller may conclude of one row's search: the lowest place, and the answer. Assumes nothing.
+use mathlib.Core.Path.{_≡_, refl, sym, ap, _∙_}
+use mathlib.Core.Logic.{_⊎_, ⊎-elim}
+use mathlib.Core.Bool.{Bool, true}
+use Prim.Native.Nat.{ℕ, _+_, _-_, _*_, _/_, _%_, _^_, _≤_, _<_}
+use native.Mathlib.Nat.{mul-mod-left, mul-le-mul-right, lt-of-mul-lt-mul-right, div-add-mod'}
+use native.Mathlib.Omega.{arith}
+use lib.Dec.{eqb, leb, ltb}
+use borrow.Author.Tests.{eqb-true, eqb-false, leb-true, ltb-true, ltb-false, le-leb}
+use denote.Enum.Declared.{tagOf}
+use Rattle.base.specs.Walk.{pick, first}
+use Rattle.base.specs.Bits.{bitsAt, overlay}
+use Rattle.base.proofs.Walks.{first-hit, first-le, first-before, pick-case}
+use Rattle.base.proofs.Sizes.{pow-divides}
+use Rattle.row.specs.declared.Found.{Found}
+use Rattle.row.specs.declared.Found.the-variants.{At, Full, BadOrder}
+use Rattle.row.specs.Row.{Numbers, numbers, numbersOf, lowest, firstZeros}
+use Rattle.row.proofs.Found.{the-type}
+
+-- ---- the lowest place
+
+-- row v's block of order o at place p is clear, within the row and aligned
+pub record Clear (v o p : ℕ) : Type 0 where
+  pub bits : bitsAt v p (2 ^ o) ≡ 0
+  pub within : p + 2 ^ o ≤ 64
+  pub aligned : p % 2 ^ o ≡ 0
+
+module _ (o v : ℕ) where
+  -- the test that the lowest place is the first to pass: lane j of 2 ^ o bits is clear
+  abbrev clear : ℕ → Bool
+  clear j = eqb (bitsAt v (j * 2 ^ o) (2 ^ o)) 0
+
+  -- the first lane that passes it
+  abbrev lane : ℕ
+  lane = first clear (2 ^ (6 - o)) 0
+
+  -- the lowest place is one of the row, or 64
+  pub lowest-le : o ≤ 6 → lowest o v ≤ 64
+  unfolding lowest
+  lowest-le h = omega (arith, pow-divides o 6 h, mul-le-mul-right (2 ^ o) (first-le clear (2 ^ (6 - o)) 0))
+
+  -- where it is one of the row, the block there is clear
+  pub lowest-clear : o ≤ 6 → lowest o v < 64 → Clear v o (lowest o v)
+  unfolding lowest
+  lowest-clear h l =
+      let n = pow-divides o 6 h in
+      let low : lane < 2 ^ (6 - o) = lt-of-mul-lt-mul-right (2 ^ o) (omega arith) in
+      record {
+        bits = eqb-true _ _ (first-hit clear (2 ^ (6 - o)) 0 (omega arith));
+        within = omega (arith, mul-le-mul-right (2 ^ o) low);
+        aligned = mul-mod-left lane (2 ^ o);
+      }
+
+  -- and no aligned block below it is: where it is 64, none at all
+  pub lowest-least : (q : ℕ) → q % 2 ^ o ≡ 0 → q < lowest o v → bitsAt v q (2 ^ o) ≡ 0 → ⊥
+  unfolding lowest
+  lowest-least q a l e =
+      let s : q / 2 ^ o * 2 ^ o ≡ q = omega (arith, div-add-mod' q (2 ^ o)) in
+      let low : q / 2 ^ o < lane = lt-of-mul-lt-mul-right (2 ^ o) (omega arith) in
+      eqb-false (bitsAt v (q / 2 ^ o * 2 ^ o) (2 ^ o)) 0 (first-before clear (2 ^ (6 - o)) 0 (q / 2 ^ o) (omega arith) low) (rw s e)
+
+-- ---- the answer
+
+-- p is the lowest place of row v at order o, and r the row with the block there set
+pub record InRow (v o p r : ℕ) : Type 0 where
+  pub order : o ≤ 6
+  pub is : p ≡ lowest o v
+  pub low : p < 64
+  pub row : r ≡ overlay true v p (p + 2 ^ o)
+
+-- that is what an answer with a place says
+pub in-row : (v o p r : ℕ) → firstZeros v o ≡ numbers 0 p r → InRow v o p r
+unfolding firstZeros
+in-row v o p r =
+    pick-case Says (leb o 6)
+    (λ b. pick-case Says (ltb (lowest o v) 64)
+    (λ l e.
+    let s : lowest o v ≡ p = ap (λ (x : Numbers). x .place) e in
+    record {
+      order = leb-true o 6 b;
+      is = sym s;
+      low = omega (arith, ltb-true (lowest o v) 64 l);
+      row = rw s at (sym (ap (λ (x : Numbers). x .row) e));
+    })
+    (λ l e. absurd (omega (arith, ap (λ (x : Numbers). x .code) e))))
+    (λ b e. absurd (omega (arith, ap (λ (x : Numbers). x .code) e)))
+  where
+    Says : Numbers → Type 0
+    Says x = x ≡ numbers 0 p r → InRow v o p r
+
+-- a code other than 0 says that no block is clear, where the order is one of a row's
+not-in-row : (v o : ℕ) → o ≤ 6 → (firstZeros v o .code ≡ 0 → ⊥) → lowest o v ≡ 64
+unfolding firstZeros
+not-in-row v o h =
+    rw (le-leb o 6 h)
+    (pick-case (λ (x : Numbers). (x .code ≡ 0 → ⊥) → lowest o v ≡ 64) (ltb (lowest o v) 64) (λ l n. absurd (n refl))
+    (λ l n. omega (arith, lowest-le o v h, ltb-false (lowest o v) 64 l)))
+
+-- so says an answer with no place: the tags of `Full` and `BadOrder`, which a caller's last arm has
+pub passed-row : (f : Found) (v o : ℕ) → o ≤ 6 → numbersOf f ≡ firstZeros v o → (tagOf the-type f ≡ 1) ⊎ (tagOf the-type f ≡ 2) → lowest o v ≡ 64
+passed-row (At p r) v o h e t = absurd (⊎-elim (λ (q : 0 ≡ 1). omega arith) (λ (q : 0 ≡ 2). omega arith) t)
+passed-row Full v o h e t = not-in-row v o h (λ z. omega (arith, ap (λ (x : Numbers). x .code) e))
+passed-row BadOrder v o h e t = not-in-row v o h (λ z. omega (arith, ap (λ (x : Numbers). x .code) e))
+
+-- the answer that has these numbers
+answerOf : Numbers → Found
+answerOf x = pick (eqb (x .code) 0) (At (x .place) (x .row)) (pick (eqb (x .code) 7) Full BadOrder)
+
+-- an answer's numbers give it back
+answer-of : (f : Found) → answerOf (numbersOf f) ≡ f
+unfolding answerOf
+answer-of (At p r) = refl
+answer-of Full = refl
+answer-of BadOrder = refl
+
+-- the contract leaves one answer
+pub one-answer : (f g : Found) (v o : ℕ) → numbersOf f ≡ firstZeros v o → numbersOf g ≡ firstZeros v o → f ≡ g
+one-answer f g v o e h = sym (answer-of f) ∙ ap answerOf (e ∙ sym h) ∙ answer-of g

@@ -1,0 +1,19 @@
+-- `shape::top_order` meets its contract: neither summand is more than 11. Assumes nothing.
+use native.Mathlib.Omega.{arith}
+use borrow.Author.Needs.{needs}
+use borrow.Author.Tests.{ltb-true}
+use Rattle.base.proofs.Sizes.{huge-high}
+use Rattle.shape.proofs.top_order.Statement.{statement}
+use Rattle.shape.proofs.top_order.Tie as tie
+
+tree-log-requires : tie.Need-tree-log-requires
+tree-log-requires c κs = search needs
+
+add-result : tie.Need-add-result
+add-result c = omega (arith, huge-high (c .before .pre .0), ltb-true)
+
+returns : tie.Need-returns
+returns c = search needs
+
+pub top-order-spec : {M : Type 1} → statement M
+top-order-spec = tie.close (tie.spec tree-log-requires add-result returns)

@@ -1,0 +1,169 @@
+// The numbers of document 01: sizes that follow from the huge order h and the tree size T, and conversions between
+// frames, rows, huge frames and trees. T enters the conversions as its logarithm k, so that none of them divides.
+ghost use mathlib.Core.Path.{_≡_};
+ghost use mathlib.Core.Bool.{true};
+ghost use Prim.Native.Nat.{_*_, _/_, _%_, _^_, _<_, _≤_};
+ghost use Rattle.base.specs.Size.{Huge, rowsOf};
+ghost use Rattle.shape.specs.Shape.{rowOf, bitOf, hugeOf, treeOf, treeLog, isTree, topOrder, aligned, rowsNeeded, entriesNeeded, initNumber};
+
+// The bits of a row.
+pub const ROW_BITS: usize = 64;
+
+// The entry of a huge frame that is held whole.
+pub const MARK: u16 = 65535;
+
+// The most frames that N may be.
+pub const FRAMES_MAX: usize = 1_048_576;
+
+// Free frames, huge frames that are free whole, and trees that are, with document 01's number.
+pub struct Stats {
+    pub code: u32,
+    pub free_frames: usize,
+    pub free_huge: usize,
+    pub free_trees: usize,
+}
+
+// How a start leaves the frames below N.
+pub enum Init {
+    FreeAll,
+    AllocAll,
+}
+
+// The number that stands for a start in a line of `trace`.
+pub fn init_number(init: Init) -> usize
+    ensures { λ r. ⌜ r ≡ initNumber init ⌝ }
+{
+    match init {
+        Init::FreeAll => 0,
+        Init::AllocAll => 1,
+    }
+}
+
+// Whether t is one of the ten tree sizes.
+pub fn is_tree(t: usize) -> bool
+    ensures { λ r. ⌜ r ≡ isTree t ⌝ }
+{
+    let k = usize::trailing_zeros(t);
+    if k < 10 {
+        return 1usize << k == t;
+    }
+    false
+}
+
+// log2 T.
+pub fn tree_log(t: usize) -> usize
+    requires { ⌜ isTree t ≡ true ⌝ }
+    ensures { λ r. ⌜ r ≡ treeLog t ⌝ }
+{
+    usize::trailing_zeros(t) as usize
+}
+
+// The order of a whole tree.
+pub fn top_order(h: usize, t: usize) -> usize
+    requires { ⌜ (Huge h) × (isTree t ≡ true) ⌝ }
+    ensures { λ r. ⌜ r ≡ topOrder h t ⌝ }
+{
+    h + tree_log(t)
+}
+
+// Whether a frame is aligned at an order.
+pub fn is_aligned(frame: usize, order: usize) -> bool
+    requires { ⌜ order < 64 ⌝ }
+    ensures { λ r. ⌜ r ≡ aligned frame order ⌝ }
+{
+    frame & (base::size(order) - 1) == 0
+}
+
+// The row of a frame.
+pub fn frame_row(frame: usize) -> usize
+    ensures { λ r. ⌜ r ≡ rowOf frame ⌝ }
+{
+    frame / ROW_BITS
+}
+
+// The bit of a frame in its row.
+pub fn frame_bit(frame: usize) -> usize
+    ensures { λ r. ⌜ r ≡ bitOf frame ⌝ }
+{
+    frame % ROW_BITS
+}
+
+// The huge frame of a frame.
+pub fn frame_huge(h: usize, frame: usize) -> usize
+    requires { ⌜ Huge h ⌝ }
+    ensures { λ r. ⌜ r ≡ hugeOf h frame ⌝ }
+{
+    frame >> h
+}
+
+// The tree of a frame, where T is 2^k.
+pub fn frame_tree(h: usize, k: usize, frame: usize) -> usize
+    requires { ⌜ (Huge h) × (k < 10) ⌝ }
+    ensures { λ r. ⌜ r ≡ treeOf h (2 ^ k) frame ⌝ }
+{
+    frame >> (h + k)
+}
+
+// The huge frame of a row.
+pub fn row_huge(h: usize, row: usize) -> usize
+    requires { ⌜ Huge h ⌝ }
+    ensures { λ r. ⌜ r ≡ hugeOf h (row * 64) ⌝ }
+{
+    row >> (h - 6)
+}
+
+// The first frame of a huge frame.
+pub fn huge_frame(h: usize, huge: usize) -> usize
+    requires { ⌜ (Huge h) × (huge * 2 ^ h < 2 ^ 64) ⌝ }
+    ensures { λ r. ⌜ r ≡ huge * 2 ^ h ⌝ }
+{
+    huge << h
+}
+
+// The first row of a huge frame.
+pub fn huge_row(h: usize, huge: usize) -> usize
+    requires { ⌜ (Huge h) × (huge * rowsOf h < 2 ^ 64) ⌝ }
+    ensures { λ r. ⌜ r ≡ huge * rowsOf h ⌝ }
+{
+    huge << (h - 6)
+}
+
+// The tree of a huge frame.
+pub fn huge_tree(k: usize, huge: usize) -> usize
+    requires { ⌜ k < 10 ⌝ }
+    ensures { λ r. ⌜ r ≡ huge / 2 ^ k ⌝ }
+{
+    huge >> k
+}
+
+// The place of a huge frame in its tree.
+pub fn huge_child(k: usize, huge: usize) -> usize
+    requires { ⌜ k < 10 ⌝ }
+    ensures { λ r. ⌜ r ≡ huge % 2 ^ k ⌝ }
+{
+    huge & (base::size(k) - 1)
+}
+
+// The first huge frame of a tree.
+pub fn tree_huge(k: usize, tree: usize) -> usize
+    requires { ⌜ (k < 10) × (tree * 2 ^ k < 2 ^ 64) ⌝ }
+    ensures { λ r. ⌜ r ≡ tree * 2 ^ k ⌝ }
+{
+    tree << k
+}
+
+// The rows that n frames need.
+pub fn rows_needed(h: usize, n: usize) -> usize
+    requires { ⌜ (Huge h) × (n ≤ 1048576) ⌝ }
+    ensures { λ r. ⌜ r ≡ rowsNeeded h n ⌝ }
+{
+    ((n + (base::size(h) - 1)) >> h) << (h - 6)
+}
+
+// The entries that n frames need, in trees of 2^k.
+pub fn entries_needed(h: usize, k: usize, n: usize) -> usize
+    requires { ⌜ (Huge h) × (k < 10) × (n ≤ 1048576) ⌝ }
+    ensures { λ r. ⌜ r ≡ entriesNeeded h n (2 ^ k) ⌝ }
+{
+    ((n + (base::size(h + k) - 1)) >> (h + k)) << k
+}

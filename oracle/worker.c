@@ -1,0 +1,116 @@
+/* Ours, for the comparison: a program for x86-64 over libcapi.a, the archive that users link. It reads
+ * calls from its standard input and writes what they answered and left. The driver, sides.rs, runs it
+ * natively or under the kit's emulator, and has the other half of this protocol.
+ *
+ * A batch is a number of words of 64 bits, then those words: items of a kind and its words. All of the
+ * batch is read before anything is answered, so that no side waits for the other. */
+
+typedef __UINT64_TYPE__ word;
+typedef __UINT32_TYPE__ number;
+typedef __SIZE_TYPE__ size;
+
+long read(int file, void *to, size length);
+long write(int file, const void *from, size length);
+void *memcpy(void *to, const void *from, size length);
+
+number rb_first_zeros_aligned(word v, size order, size *place, word *row);
+number rb_bitfield_set(word *rows, size rows_len, size start, size end, number value);
+number rb_bitfield_toggle(word *rows, size rows_len, size place, size order, number expected);
+number rb_bitfield_is_zero(const word *rows, size rows_len, size place, size order, number *yes);
+number rb_bitfield_first_zeros(const word *rows, size rows_len, size start_row, size order, size *place);
+number rb_bitfield_set_first_zeros(word *rows, size rows_len, size start_row, size order, size *place);
+number rb_bitfield_fill(word *rows, size rows_len, number value);
+number rb_bitfield_count_zeros(const word *rows, size rows_len, size *zeros);
+
+enum { SEARCH, STATE, SET, TOGGLE, IS_ZERO, FIRST_ZEROS, SET_FIRST_ZEROS, FILL, COUNT_ZEROS };
+
+/* Up to sixteen lent rows, and one word on either side that no call may touch. */
+enum { ROOM = 18 };
+
+/* A lent number starts as this, so that one which is not written is seen. */
+#define UNWRITTEN 0x5a5a5a5a5a5a5a5aull
+
+static word request[1 << 20], reply[1 << 20];
+
+static int transfer(int writing, void *at, size length)
+{
+    while (length > 0) {
+        long done = writing ? write(1, at, length) : read(0, at, length);
+        if (done <= 0)
+            return 0;
+        at = (char *)at + done;
+        length -= (size)done;
+    }
+    return 1;
+}
+
+/* One call on a copy of the state: code, lent number and all of the room go to out. */
+static void eight_rows(const word *item, const word *state, word *out)
+{
+    word *rows = out + 3, length = item[1], a = item[2], b = item[3];
+    number flag = (number)item[4], yes = (number)UNWRITTEN;
+    size lent = UNWRITTEN;
+
+    memcpy(out + 2, state, ROOM * sizeof *state);
+    out[1] = 0;
+    switch (item[0]) {
+    case SET:
+        out[0] = rb_bitfield_set(rows, length, a, b, flag);
+        break;
+    case TOGGLE:
+        out[0] = rb_bitfield_toggle(rows, length, a, b, flag);
+        break;
+    case IS_ZERO:
+        out[0] = rb_bitfield_is_zero(rows, length, a, b, &yes);
+        out[1] = yes;
+        break;
+    case FIRST_ZEROS:
+        out[0] = rb_bitfield_first_zeros(rows, length, a, b, &lent);
+        out[1] = lent;
+        break;
+    case SET_FIRST_ZEROS:
+        out[0] = rb_bitfield_set_first_zeros(rows, length, a, b, &lent);
+        out[1] = lent;
+        break;
+    case FILL:
+        out[0] = rb_bitfield_fill(rows, length, flag);
+        break;
+    default:
+        out[0] = rb_bitfield_count_zeros(rows, length, &lent);
+        out[1] = lent;
+    }
+}
+
+int main(void)
+{
+    static word state[ROOM];
+    word count;
+
+    while (transfer(0, &count, sizeof count)) {
+        word *in = request, *out = reply;
+        if (count > sizeof request / sizeof *request || !transfer(0, request, count * sizeof *request))
+            return 1;
+        while (in < request + count) {
+            switch (in[0]) {
+            case SEARCH: {
+                size place = UNWRITTEN;
+                out[2] = UNWRITTEN;
+                out[0] = rb_first_zeros_aligned(in[1], in[2], &place, &out[2]);
+                out[1] = place;
+                in += 3, out += 3;
+                break;
+            }
+            case STATE:
+                memcpy(state, in + 1, sizeof state);
+                in += 1 + ROOM;
+                break;
+            default:
+                eight_rows(in, state, out);
+                in += 5, out += 2 + ROOM;
+            }
+        }
+        if (!transfer(1, reply, (size)(out - reply) * sizeof *reply))
+            return 1;
+    }
+    return 0;
+}
