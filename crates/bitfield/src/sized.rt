@@ -8,7 +8,6 @@ ghost use Rattle.bitfield.specs.Calls as spec;
 use super::Answered;
 use super::Counted;
 use super::Placed;
-use row::Found;
 
 // The refusals of a call on the rows of a huge frame, in document 01's order: 0 where there is none.
 fn rows_code(h: usize, len: usize) -> u32
@@ -157,10 +156,11 @@ fn find_in_rows(h: usize, rows: &[u64], start: usize, order: usize) -> Placed
     let mut i = start;
     let mut left = rows.len();
     while 0 < left {
-        if let Found::At(place, _) = row::first_zeros_aligned(rows[i], order) {
+        let place = row::lowest_clear(rows[i], order);
+        if place < 64 {
             return Placed {
                 code: 0,
-                place: i * 64 + place,
+                place: i * 64 + place as usize,
             };
         }
         i += 1;

@@ -1,3 +1,5 @@
 pub mod Marks
 pub mod Lanes
+pub mod Halves
 pub mod Laws
+pub mod Past
