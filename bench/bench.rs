@@ -5,6 +5,8 @@
 //! its least pass: what else the machine does can only add to it. All rows are restored before each pass,
 //! outside of its time.
 
+#[path = "../oracle/library.rs"]
+mod library;
 // Not all of its calls are timed.
 #[allow(dead_code)]
 #[path = "../oracle/rust.rs"]

@@ -2,15 +2,19 @@
 //! Run by oracle/compare, as: compare SEED ROWS STATES EDGES LIBRARIES -- WORKER..
 
 mod inputs;
+mod library;
 mod model;
+mod process;
+mod progress;
+mod random;
 mod rust;
 mod sides;
 mod tally;
 
 use std::process::exit;
-use std::time::Instant;
 
-use inputs::Random;
+use progress::Progress;
+use random::Random;
 use rust::Rust;
 use sides::{Call, Outcome, ROOM, Room, What, Worker, by_model, by_rust};
 use tally::Tally;
@@ -94,18 +98,6 @@ fn differ(call: &Call, before: &Room, sides: &[(&str, &Outcome)]) -> ! {
     exit(1);
 }
 
-/// Says how far a run is, every ten seconds.
-struct Progress(Instant);
-
-impl Progress {
-    fn say(&mut self, done: u64, of: u64, what: &str) {
-        if self.0.elapsed().as_secs() >= 10 {
-            eprintln!("bitfield: {done} of {of} {what}");
-            self.0 = Instant::now();
-        }
-    }
-}
-
 fn main() {
     let words: Vec<String> = std::env::args().collect();
     let number = |i: usize| words[i].parse::<u64>().expect("a number");
@@ -118,7 +110,7 @@ fn main() {
         cases: 0,
         tally: Tally::new(),
     };
-    let mut progress = Progress(Instant::now());
+    let mut progress = Progress::new("bitfield");
 
     // A one-row search lends no rows.
     let none: Room = [0; ROOM];

@@ -131,6 +131,45 @@ pub unsafe extern "C" fn oracle_count_zeros(rows: &Bitfield, zeros: &mut usize) 
 /// Numbers of 16 bits from one tree's entries to the next, as the Rust pads them.
 const PADDED: usize = size_of::<Align<[u16; TREE_HUGE]>>() / size_of::<u16>();
 
+/// Memory in the Rust's own layout: the rows, then the entries.
+struct Memory {
+    frames: usize,
+    lines: Vec<Align<[u8; 64]>>,
+}
+
+impl Memory {
+    fn new(frames: usize) -> Memory {
+        let mut lines = Vec::new();
+        lines.resize_with(Lower::metadata_size(frames) / 64, || Align([0; 64]));
+        Memory { frames, lines }
+    }
+
+    /// The lower level over this memory. It must not outlive it.
+    unsafe fn lower<'a>(&mut self, init: Init) -> Result<Lower<'a>> {
+        let bytes =
+            unsafe { slice::from_raw_parts_mut(self.lines.as_mut_ptr().cast(), 64 * self.lines.len()) };
+        Lower::new(self.frames, init, bytes)
+    }
+
+    /// Copies the flat rows and entries in, or back.
+    unsafe fn copy(&mut self, rows: *mut u64, entries: *mut u16, back: bool) {
+        let rows_len = self.frames.div_ceil(HUGE_FRAMES) * (HUGE_FRAMES / BITFIELD_ROW);
+        let own_rows: *mut u64 = self.lines.as_mut_ptr().cast();
+        unsafe {
+            let own_entries: *mut u16 = own_rows.add(rows_len).cast();
+            copy(rows, own_rows, rows_len, back);
+            for tree in 0..self.frames.div_ceil(TREE_FRAMES) {
+                copy(entries.add(tree * TREE_HUGE), own_entries.add(tree * PADDED), TREE_HUGE, back);
+            }
+        }
+    }
+}
+
+unsafe fn copy<T>(flat: *mut T, own: *mut T, count: usize, back: bool) {
+    let (from, to) = if back { (own, flat) } else { (flat, own) };
+    unsafe { from.copy_to(to, count) }
+}
+
 /// Runs `call` on a copy in the Rust's own layout and copies all of it back, after a panic too.
 unsafe fn lower(
     frames: usize,
@@ -139,27 +178,11 @@ unsafe fn lower(
     entries: *mut u16,
     call: impl FnOnce(&Lower) -> u32,
 ) -> u32 {
-    let rows_len = frames.div_ceil(HUGE_FRAMES) * (HUGE_FRAMES / BITFIELD_ROW);
-    let trees = frames.div_ceil(TREE_FRAMES);
-    let size = Lower::metadata_size(frames);
-    let mut memory: Vec<Align<[u8; 64]>> = Vec::new();
-    memory.resize_with(size / 64, || Align([0; 64]));
-    let start: *mut u8 = memory.as_mut_ptr().cast();
+    let mut memory = Memory::new(frames);
     unsafe {
-        let own_rows: *mut u64 = start.cast();
-        let own_entries: *mut u16 = own_rows.add(rows_len).cast();
-        rows.copy_to(own_rows, rows_len);
-        for tree in 0..trees {
-            entries.add(tree * TREE_HUGE).copy_to(own_entries.add(tree * PADDED), TREE_HUGE);
-        }
-        let code = guarded(|| {
-            let memory = slice::from_raw_parts_mut(start, size);
-            Lower::new(frames, init, memory).map_or(OTHER_ERROR, |lower| call(&lower))
-        });
-        rows.copy_from(own_rows, rows_len);
-        for tree in 0..trees {
-            entries.add(tree * TREE_HUGE).copy_from(own_entries.add(tree * PADDED), TREE_HUGE);
-        }
+        memory.copy(rows, entries, false);
+        let code = guarded(|| memory.lower(init).map_or(OTHER_ERROR, |lower| call(&lower)));
+        memory.copy(rows, entries, true);
         code
     }
 }
@@ -272,4 +295,43 @@ pub unsafe extern "C" fn oracle_recover(frames: usize, rows: *mut u64, entries: 
             0
         })
     }
+}
+
+// ---- A lower level whose memory stays in the Rust's layout, so that a call is no more than the call.
+
+pub struct Kept {
+    memory: Memory,
+    lower: Lower<'static>,
+}
+
+/// One of so many frames, which lasts as long as the program.
+#[unsafe(no_mangle)]
+pub extern "C" fn oracle_keep(frames: usize) -> *mut Kept {
+    let mut memory = Memory::new(frames);
+    let lower = unsafe { memory.lower(Init::None) }.expect("the memory is as large as it has to be");
+    Box::into_raw(Box::new(Kept { memory, lower }))
+}
+
+/// Copies flat rows and entries in, or with `back` out.
+#[unsafe(no_mangle)]
+pub unsafe extern "C" fn oracle_kept_copy(kept: &mut Kept, rows: *mut u64, entries: *mut u16, back: u32) {
+    unsafe { kept.memory.copy(rows, entries, back != 0) }
+}
+
+#[unsafe(no_mangle)]
+pub unsafe extern "C" fn oracle_kept_get(
+    kept: &Kept,
+    start_row: usize,
+    order: usize,
+    found: &mut usize,
+) -> u32 {
+    guarded(|| {
+        let got = kept.lower.get(RowId(start_row), order, None);
+        answer(got.map(|frame| frame.0), found)
+    })
+}
+
+#[unsafe(no_mangle)]
+pub unsafe extern "C" fn oracle_kept_put(kept: &Kept, frame: usize, order: usize) -> u32 {
+    guarded(|| answer(kept.lower.put(FrameId(frame), order).map(|()| 0), &mut 0))
 }

@@ -2,10 +2,9 @@
 //! Rust, and the model.
 
 use std::fmt;
-use std::io::{Read, Write};
-use std::process::{Child, ChildStdin, ChildStdout, Command, Stdio};
 
 use crate::model;
+use crate::process::{Process, Words};
 use crate::rust::Rust;
 
 /// Up to sixteen lent rows, and one word on either side that no call may touch.
@@ -112,9 +111,7 @@ pub fn by_rust(rust: &Rust, call: &Call, before: &Room) -> Outcome {
 
 /// Our side's process, and the batch that is being written for it.
 pub struct Worker {
-    process: Child,
-    to: ChildStdin,
-    from: ChildStdout,
+    process: Process,
     request: Vec<u64>,
     answers: usize,
 }
@@ -126,14 +123,7 @@ impl Worker {
     const STATE: u64 = 1;
 
     pub fn start(command: &[String]) -> Worker {
-        let mut process = Command::new(&command[0])
-            .args(&command[1..])
-            .stdin(Stdio::piped())
-            .stdout(Stdio::piped())
-            .spawn()
-            .unwrap_or_else(|error| panic!("{}: {error}", command[0]));
-        let (to, from) = (process.stdin.take().unwrap(), process.stdout.take().unwrap());
-        Worker { process, to, from, request: Vec::new(), answers: 0 }
+        Worker { process: Process::start(command), request: Vec::new(), answers: 0 }
     }
 
     /// The rows that the calls after it start from, each anew.
@@ -159,40 +149,24 @@ impl Worker {
 
     /// Sends the batch and hands back its answers, in the order of its calls.
     pub fn answers(&mut self) -> Answers {
-        let mut bytes = Vec::with_capacity(8 * self.request.len() + 8);
-        bytes.extend((self.request.len() as u64).to_le_bytes());
-        bytes.extend(self.request.drain(..).flat_map(u64::to_le_bytes));
-        let mut back = vec![0; 8 * std::mem::take(&mut self.answers)];
-        let done = self.to.write_all(&bytes).and_then(|()| self.from.read_exact(&mut back));
-        done.unwrap_or_else(|error| panic!("our side ended early: {error}"));
-        Answers { bytes: back, at: 0 }
+        self.process.send(&mut self.request);
+        Answers(self.process.receive(std::mem::take(&mut self.answers)))
     }
 
-    /// Ends the process, which must have had nothing to complain of.
     pub fn end(self) {
-        let Worker { mut process, to, .. } = self;
-        drop(to);
-        assert!(process.wait().unwrap().success(), "our side's process failed");
+        self.process.end();
     }
 }
 
-pub struct Answers {
-    bytes: Vec<u8>,
-    at: usize,
-}
+pub struct Answers(Words);
 
 impl Answers {
-    fn word(&mut self) -> u64 {
-        self.at += 8;
-        u64::from_le_bytes(self.bytes[self.at - 8..self.at].try_into().unwrap())
-    }
-
     /// The next answer, to `call`, which started from `before`.
     pub fn next(&mut self, call: &Call, before: &Room) -> Outcome {
-        let (code, number) = (self.word(), self.word());
+        let (code, number) = (self.0.word(), self.0.word());
         let mut room = *before;
         let words = if call.what == What::Search { 1 } else { ROOM };
-        room[..words].iter_mut().for_each(|word| *word = self.word());
+        room[..words].iter_mut().for_each(|word| *word = self.0.word());
         Outcome { code, number, room }
     }
 }

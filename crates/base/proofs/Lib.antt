@@ -6,3 +6,4 @@ pub mod Masks
 pub mod Rows
 pub mod Writes
 pub mod Frames
+pub mod Parts

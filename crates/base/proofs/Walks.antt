@@ -1,13 +1,15 @@
 -- Laws of the walks: what a loop's turn does, and what the answer says of each index. Assumes nothing.
 use mathlib.Core.Path.{_≡_, refl, sym, ap, _∙_}
 use mathlib.Core.Bool.{Bool, true, false}
+use mathlib.Core.List.{List}
 use mathlib.Core.Logic.{_⊎_, inl, inr, ⊎-elim}
 use native.Mathlib.Decide.{decLe}
 use Prim.Native.Nat.{ℕ, zero, suc, _+_, _-_, _≤_, _<_}
 use native.Mathlib.Omega.{arith}
 use native.Mathlib.Numerals.{add-one}
+use lib.ListN.{length, set, length-set}
 use native.Mathlib.Nat.{add-zero, zero-add, suc-add, add-suc}
-use Rattle.base.specs.Walk.{pick, first, all, count}
+use Rattle.base.specs.Walk.{pick, first, all, count, written}
 
 eq-or-lt : (i j : ℕ) → i ≤ j → (j ≡ i) ⊎ (suc i ≤ j)
 eq-or-lt i j l = elim (decLe (suc i) j) [ yes q ↦ inr q | no q ↦ inl (omega arith) ]
@@ -252,3 +254,13 @@ pub first-never : (p : ℕ → Bool) (n i : ℕ) → ((k : ℕ) → i ≤ k → 
 unfolding first
 first-never p zero i f = omega arith
 first-never p (suc n) i f = rw (first, f i (omega arith) (omega arith)) (first-never p n (suc i) (λ k b c. f k (omega arith) (omega arith)) ∙ omega arith)
+
+-- one more of a run that is written
+pub written-more : (f : ℕ → ℕ) (l : List ℕ) (at n : ℕ) → set (written f l at n) (at + n) (f (at + n)) ≡ written f l at (n + 1)
+unfolding written
+written-more f l at n = rw add-one
+
+pub length-written : (f : ℕ → ℕ) (l : List ℕ) (at n : ℕ) → length (written f l at n) ≡ length l
+unfolding written
+length-written f l at zero = refl
+length-written f l at (suc n) = length-set (written f l at n) (at + n) (f (at + n)) ∙ length-written f l at n

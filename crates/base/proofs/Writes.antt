@@ -10,7 +10,7 @@ use Rattle.base.specs.Bits.{solid, overlay, withBits}
 use Rattle.base.proofs.Masks.{overlay-none}
 
 -- bits from a up to a are none
-with-none : (b : Bool) (rows : List ℕ) (a : ℕ) → withBits b rows a a ≡ rows
+pub with-none : (b : Bool) (rows : List ℕ) (a : ℕ) → withBits b rows a a ≡ rows
 unfolding withBits
 with-none b [] a = refl
 with-none b (v ∷ rows) a = ap₂ (λ (x : ℕ) (l : List ℕ). x ∷ l) (overlay-none b v (min a 64)) (with-none b rows (a - 64))

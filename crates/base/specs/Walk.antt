@@ -1,6 +1,8 @@
 -- Walks over a range of indices. Every loop of the project is one of them.
 use mathlib.Core.Bool.{Bool, true, false}
-use Prim.Native.Nat.{ℕ, zero, suc}
+use mathlib.Core.List.{List}
+use Prim.Native.Nat.{ℕ, zero, suc, _+_}
+use lib.ListN.{set}
 
 -- if, for any answer
 abbrev pub pick {ℓ} : {A : Type ℓ} → Bool → A → A → A
@@ -21,3 +23,8 @@ all p (suc n) i = pick (p i) (all p n (suc i)) false
 unfoldable pub count : (ℕ → Bool) → ℕ → ℕ → ℕ
 count p zero i = 0
 count p (suc n) i = pick (p i) (suc (count p n (suc i))) (count p n (suc i))
+
+-- the list with f i at each of the n indices i from at
+unfoldable pub written : (ℕ → ℕ) → List ℕ → ℕ → ℕ → List ℕ
+written f l at zero = l
+written f l at (suc n) = set (written f l at n) (at + n) (f (at + n))

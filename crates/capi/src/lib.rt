@@ -4,8 +4,10 @@ ghost use mathlib.Core.Path.{_≡_};
 ghost use Rattle.base.specs.Code.{out};
 ghost use Rattle.base.specs.Size.{hugeOrder};
 ghost use Rattle.row.specs.Row.{numbers, firstZeros};
+ghost use Rattle.shape.specs.State.{mem, got};
 ghost use Rattle.bitfield.specs.Calls as spec;
-ghost use Rattle.capi.specs.Flag.{says, flagged};
+ghost use Rattle.lower.specs.Calls as lower;
+ghost use Rattle.capi.specs.Flag.{says, flagged, freeFlagged};
 use row::Found;
 
 // The lowest clear block of a row, and the row with the block set.
@@ -124,4 +126,97 @@ pub extern "C" fn rb_bitfield_count_zeros(rows: &[u64], zeros: &mut usize) -> u3
     let counted = bitfield::count_zeros(rows);
     *zeros = counted.zeros;
     counted.code
+}
+
+// Starts with all frames below N free.
+#[no_mangle]
+pub extern "C" fn rb_free_all(n: usize, t: usize, rows: &mut [u64], entries: &mut [u16]) -> u32
+    ensures { λ r. ⌜ out r (mem (now (rows .exit)) (now (entries .exit))) ≡ lower.freeAll hugeOrder n t (mem (now (rows .entry)) (now (entries .entry))) ⌝ }
+{
+    lower::free_all(n, t, rows, entries)
+}
+
+// Starts with all frames below N held.
+#[no_mangle]
+pub extern "C" fn rb_reserve_all(n: usize, t: usize, rows: &mut [u64], entries: &mut [u16]) -> u32
+    ensures { λ r. ⌜ out r (mem (now (rows .exit)) (now (entries .exit))) ≡ lower.reserveAll hugeOrder n t (mem (now (rows .entry)) (now (entries .entry))) ⌝ }
+{
+    lower::reserve_all(n, t, rows, entries)
+}
+
+// Takes the first free block of the start row's tree.
+#[no_mangle]
+pub extern "C" fn rb_get(
+    n: usize,
+    t: usize,
+    rows: &mut [u64],
+    entries: &mut [u16],
+    row: usize,
+    order: usize,
+    frame: &mut usize,
+    probes: &mut usize,
+) -> u32
+    ensures { λ r. ⌜ out (got r (now (frame .exit)) (now (probes .exit))) (mem (now (rows .exit)) (now (entries .exit))) ≡ lower.get hugeOrder n t (mem (now (rows .entry)) (now (entries .entry))) row order ⌝ }
+{
+    let taken = lower::get(n, t, rows, entries, row, order);
+    *frame = taken.frame;
+    *probes = taken.probes;
+    taken.code
+}
+
+// Takes the block at a frame.
+#[no_mangle]
+pub extern "C" fn rb_get_at(
+    n: usize,
+    t: usize,
+    rows: &mut [u64],
+    entries: &mut [u16],
+    frame: usize,
+    order: usize,
+    taken: &mut usize,
+    probes: &mut usize,
+) -> u32
+    ensures { λ r. ⌜ out (got r (now (taken .exit)) (now (probes .exit))) (mem (now (rows .exit)) (now (entries .exit))) ≡ lower.getAt hugeOrder n t (mem (now (rows .entry)) (now (entries .entry))) frame order ⌝ }
+{
+    let answer = lower::get_at(n, t, rows, entries, frame, order);
+    *taken = answer.frame;
+    *probes = answer.probes;
+    answer.code
+}
+
+// Gives a block back.
+#[no_mangle]
+pub extern "C" fn rb_put(
+    n: usize,
+    t: usize,
+    rows: &mut [u64],
+    entries: &mut [u16],
+    frame: usize,
+    order: usize,
+) -> u32
+    ensures { λ r. ⌜ out r (mem (now (rows .exit)) (now (entries .exit))) ≡ lower.put hugeOrder n t (mem (now (rows .entry)) (now (entries .entry))) frame order ⌝ }
+{
+    lower::put(n, t, rows, entries, frame, order)
+}
+
+// Whether every frame of a block is free.
+#[no_mangle]
+pub extern "C" fn rb_is_free(
+    n: usize,
+    t: usize,
+    rows: &[u64],
+    entries: &[u16],
+    frame: usize,
+    order: usize,
+    yes: &mut u32,
+) -> u32
+    ensures { λ r. ⌜ out r (now (yes .exit)) ≡ freeFlagged (lower.isFree hugeOrder n t (mem (now (rows .entry)) (now (entries .entry))) frame order) ⌝ }
+{
+    let answer = lower::is_free(n, t, rows, entries, frame, order);
+    if answer.yes {
+        *yes = 1;
+        return answer.code;
+    }
+    *yes = 0;
+    answer.code
 }

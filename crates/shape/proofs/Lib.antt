@@ -1,3 +1,4 @@
 pub mod Laws
 pub mod Trees
 pub mod Ceils
+pub mod Lent

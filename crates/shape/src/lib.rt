@@ -23,6 +23,13 @@ pub struct Stats {
     pub free_trees: usize,
 }
 
+// What a get answers: document 01's number, the frame where it is 0, and the entries or groups visited.
+pub struct Got {
+    pub code: u32,
+    pub frame: usize,
+    pub probes: usize,
+}
+
 // How a start leaves the frames below N.
 pub enum Init {
     FreeAll,

@@ -1,0 +1,68 @@
+-- The rows of one huge frame as a part of all rows: what is said of the part's bits is said of the whole's. Assumes nothing.
+use mathlib.Core.Path.{_≡_, refl, sym, ap, ap₂, _∙_}
+use mathlib.Core.Bool.{Bool}
+use mathlib.Core.List.{List, [], _∷_, _++_}
+use Prim.Native.Nat.{ℕ, suc, _+_, _-_, _*_, _/_, _%_, _≤_, _<_, min}
+use native.Mathlib.Omega.{arith}
+use lib.ListN.{length, take, drop, take-append-drop, length-drop}
+use lib.Seq.{getD-take, getD-drop, length-take-le}
+use Rattle.base.specs.Bits.{bitIs, blockIs, overlay, withBits}
+use Rattle.base.proofs.Walks.{all-same}
+use Rattle.base.proofs.Masks.{overlay-none}
+use Rattle.base.proofs.Writes.{with-none}
+
+-- frame f of the k rows from row a on is frame a * 64 + f of all rows
+pub bit-part : (b : Bool) (rows : List ℕ) (a k f : ℕ) → f < k * 64 → bitIs b (take k (drop a rows)) f ≡ bitIs b rows (a * 64 + f)
+unfolding bitIs
+bit-part b rows a k f h =
+    let low : f / 64 < k = omega arith in
+    let r : (a * 64 + f) / 64 ≡ a + f / 64 = omega arith in
+    let q : (a * 64 + f) % 64 ≡ f % 64 = omega arith in
+    rw (r, q, getD-take k (drop a rows) (f / 64) 0 low, getD-drop a rows (f / 64) 0)
+
+-- so a block of the part is one of the whole
+pub block-part : (b : Bool) (rows : List ℕ) (a k p s : ℕ) → p + s ≤ k * 64 → blockIs b (take k (drop a rows)) p s ≡ blockIs b rows (a * 64 + p) s
+unfolding blockIs
+block-part b rows a k p s h = all-same _ (λ j. bitIs b rows (a * 64 + p + j)) s 0 (λ j _ l. bit-part b rows a k (p + j) (omega arith) ∙ ap (bitIs b rows) (sum a p j))
+  where
+    sum : (a p j : ℕ) → a * 64 + (p + j) ≡ a * 64 + p + j
+    sum a p j = omega arith
+
+-- rows before those that are written stay
+with-before : (b : Bool) (rows : List ℕ) (a e : ℕ) → length rows * 64 ≤ a → a ≤ e → withBits b rows a e ≡ rows
+unfolding withBits
+with-before b [] a e h l = refl
+with-before b (v ∷ rows) a e h l =
+    let lo : min a 64 ≡ 64 = omega arith in
+    let hi : min e 64 ≡ 64 = omega arith in
+    rw (lo, hi) (ap₂ (λ (x : ℕ) (t : List ℕ). x ∷ t) (overlay-none b v 64) (with-before b rows (a - 64) (e - 64) (omega arith) (omega arith)))
+
+-- a write goes over a list of rows part by part
+with-append : (b : Bool) (xs ys : List ℕ) (a e : ℕ) → withBits b (xs ++ ys) a e ≡ withBits b xs a e ++ withBits b ys (a - length xs * 64) (e - length xs * 64)
+unfolding withBits
+with-append b [] ys a e =
+    let p : a - 0 * 64 ≡ a = omega arith in
+    let q : e - 0 * 64 ≡ e = omega arith in
+    rw (p, q)
+with-append b (v ∷ xs) ys a e =
+    let p : a - suc (length xs) * 64 ≡ a - 64 - length xs * 64 = omega arith in
+    let q : e - suc (length xs) * 64 ≡ e - 64 - length xs * 64 = omega arith in
+    rw (p, q) (ap (λ (t : List ℕ). overlay b v (min a 64) (min e 64) ∷ t) (with-append b xs ys (a - 64) (e - 64)))
+
+-- a write within the k rows from row a on, put back in their place, is one of the whole
+pub with-part : (b : Bool) (rows : List ℕ) (a k p e : ℕ) → a + k ≤ length rows → p ≤ e → e ≤ k * 64
+    → take a rows ++ (withBits b (take k (drop a rows)) p e ++ drop k (drop a rows)) ≡ withBits b rows (a * 64 + p) (a * 64 + e)
+with-part b rows a k p e fits l h =
+    let front = take a rows in
+    let part = take k (drop a rows) in
+    let rest = drop k (drop a rows) in
+    let la : length (take a rows) ≡ a = length-take-le a rows (omega arith) in
+    let lk : length (take k (drop a rows)) ≡ k = length-take-le k (drop a rows) (omega (arith, length-drop a rows)) in
+    let p0 : a * 64 + p - length (take a rows) * 64 ≡ p = omega arith in
+    let e0 : a * 64 + e - length (take a rows) * 64 ≡ e = omega arith in
+    let p1 : p - length (take k (drop a rows)) * 64 ≡ 0 = omega arith in
+    let e1 : e - length (take k (drop a rows)) * 64 ≡ 0 = omega arith in
+    let tail : withBits b (part ++ rest) p e ≡ withBits b part p e ++ rest = with-append b part rest p e ∙ rw (p1, e1) (ap (λ (t : List ℕ). withBits b part p e ++ t) (with-none b rest 0)) in
+    let whole : front ++ (part ++ rest) ≡ rows = ap (λ (t : List ℕ). front ++ t) (take-append-drop k (drop a rows)) ∙ take-append-drop a rows in
+    sym (ap (λ (t : List ℕ). withBits b t (a * 64 + p) (a * 64 + e)) (sym whole) ∙ with-append b front (part ++ rest) (a * 64 + p) (a * 64 + e)
+    ∙ ap₂ (λ (x y : List ℕ). x ++ y) (with-before b front (a * 64 + p) (a * 64 + e) (omega arith) (omega arith)) (rw (p0, e0) tail))

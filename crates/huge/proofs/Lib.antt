@@ -1,0 +1,3 @@
+pub mod Wraps
+pub mod Groups
+pub mod Cases

@@ -1,0 +1,35 @@
+-- `huge::is_free` meets its contract: the entries of the group are lent, and it asks them. Assumes nothing.
+use native.Mathlib.Omega.{arith}
+use borrow.Author.Needs.{needs}
+use Rattle.huge.specs.Huge.{isFreeHuge}
+use Rattle.huge.proofs.Groups.{order-low, group-lent}
+use Rattle.huge.proofs.is_free.Statement.{statement}
+use Rattle.huge.proofs.is_free.Tie as tie
+
+whole-requires : tie.Need-whole-requires
+whole-requires c κs = search needs
+
+frame-huge-requires : tie.Need-frame-huge-requires
+frame-huge-requires c κs = search needs
+
+sub-size : tie.Need-sub-size
+sub-size c = search needs
+
+size-requires : tie.Need-size-requires
+size-requires c κs =
+    let b = c .before .before .before .pre .2 .3 in
+    omega (arith, order-low _ (b .sized) (b .top))
+
+entries-are-requires : tie.Need-entries-are-requires
+entries-are-requires c κs =
+    let pre = c .before .before .before .before .pre in
+    group-lent (pre .0) (pre .1) (pre .2 .3) (c .before .frame-huge .ensures) (c .size .ensures)
+
+returns : tie.Need-returns
+unfolding isFreeHuge
+returns c =
+    let g = c .before in
+    rw (← g .before .frame-huge .ensures, ← g .before .before .whole .ensures, ← g .size .ensures) (c .entries-are .ensures)
+
+pub is-free-spec : {M : Type 1} → statement M
+is-free-spec = tie.close (tie.spec whole-requires frame-huge-requires sub-size size-requires entries-are-requires returns)

@@ -1,0 +1,68 @@
+-- `huge::put` meets its contract: the entries of the group are lent, and the test on them tells the case. Assumes nothing.
+use mathlib.Core.Path.{sym, _∙_}
+use native.Mathlib.Omega.{arith}
+use borrow.Author.Needs.{needs}
+use Rattle.huge.proofs.Groups.{order-low, group-lent}
+use Rattle.huge.proofs.Cases.{put-done, put-refused}
+use Rattle.huge.proofs.put.Statement.{statement}
+use Rattle.huge.proofs.put.Tie as tie
+
+frame-huge-requires : tie.Need-frame-huge-requires
+frame-huge-requires c κs = search needs
+
+sub-size : tie.Need-sub-size
+sub-size c = search needs
+
+size-requires : tie.Need-size-requires
+size-requires c κs =
+    let b = c .before .before .pre .2 .3 in
+    omega (arith, order-low _ (b .sized) (b .top))
+
+entries-are-requires : tie.Need-entries-are-requires
+entries-are-requires c κs =
+    let g = c .before in
+    let pre = g .before .before .before .pre in
+    group-lent (pre .0) (pre .1) (pre .2 .3) (g .before .frame-huge .ensures) (g .size .ensures)
+
+whole-requires : tie.Need-whole-requires
+whole-requires c κs = search needs
+
+write-entries-requires : tie.Need-write-entries-requires
+write-entries-requires c κs =
+    let g = c .before .before .before .before .before in
+    let pre = g .before .before .before .pre in
+    group-lent (pre .0) (pre .1) (pre .2 .3) (g .before .frame-huge .ensures) (g .size .ensures)
+
+same-length : tie.Need-same-length
+same-length c = search needs
+
+returns : tie.Need-returns
+returns c =
+    let w = c .before .before .before in
+    let t = w .before .before in
+    let g = t .before .before .before in
+    rw (c .before .before .write-entries .ensures)
+    (put-done _ _ _ _ _ _ _ (w .whole .ensures) (g .before .frame-huge .ensures) (g .size .ensures) (sym (t .before .entries-are .ensures) ∙ t .if1 .taken))
+
+same-length-2 : tie.Need-same-length-2
+same-length-2 c = search needs
+
+returns-2 : tie.Need-returns-2
+returns-2 c =
+    let g = c .before .before .before in
+    put-refused _ _ _ _ _ _ (g .before .frame-huge .ensures) (g .size .ensures) (sym (c .before .entries-are .ensures) ∙ c .if1 .left)
+
+pub put-spec : {M : Type 1} → statement M
+put-spec =
+    tie.close
+    (tie.spec
+    frame-huge-requires
+    sub-size
+    size-requires
+    entries-are-requires
+    whole-requires
+    write-entries-requires
+    same-length
+    returns
+    same-length-2
+    returns-2)

@@ -1,0 +1,53 @@
+-- `huge::take` meets its contract: the test on the group's end tells the case. Assumes nothing.
+
+use Prim.Native.Nat.{_+_, _*_, _^_, _≤_}
+use native.Mathlib.Nat.{mul-le-mul}
+use native.Mathlib.Omega.{arith}
+use borrow.Author.Needs.{needs}
+use Rattle.base.proofs.Sizes.{frames-fit}
+use Rattle.huge.proofs.Cases.{take-done, take-past}
+use Rattle.huge.proofs.take.Statement.{statement}
+use Rattle.huge.proofs.take.Tie as tie
+
+add-huge-frame : tie.Need-add-huge-frame
+add-huge-frame c = search needs
+
+huge-frame-requires : tie.Need-huge-frame-requires
+huge-frame-requires c κs =
+    let s = c .before in
+    let l : (s .args .at + s .args .g) * 2 ^ s .args .h ≤ 1048576 * 2048 = mul-le-mul (s .pre .2) (frames-fit (s .pre .0)) in
+    (s .pre .0, omega arith)
+
+returns : tie.Need-returns
+returns c =
+    let s = c .before .before .before in
+    take-past (s .args .h) (s .args .n) (s .args .entries .now) (s .args .at) (s .args .g) (s .args .probes) (rw (c .before .huge-frame .ensures) at (c .if1 .taken))
+
+write-entries-requires : tie.Need-write-entries-requires
+write-entries-requires c κs = search needs
+
+huge-frame-requires-2 : tie.Need-huge-frame-requires-2
+huge-frame-requires-2 c κs = search needs
+
+same-length : tie.Need-same-length
+same-length c = search needs
+
+returns-2 : tie.Need-returns-2
+returns-2 c =
+    let w = c .before .before .before in
+    let f = w .before .before .before in
+    let s = f .before .before in
+    rw (c .huge-frame2 .ensures, w .write-entries .ensures)
+    (take-done (s .args .h) (s .args .n) (s .args .entries .now) (s .args .at) (s .args .g) (s .args .probes) (rw (f .huge-frame .ensures) at (w .before .before .if1 .left)))
+
+pub take-spec : {M : Type 1} → statement M
+take-spec =
+    tie.close
+    (tie.spec
+    add-huge-frame
+    huge-frame-requires
+    returns
+    write-entries-requires
+    huge-frame-requires-2
+    same-length
+    returns-2)

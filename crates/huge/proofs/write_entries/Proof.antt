@@ -1,0 +1,71 @@
+-- `huge::write_entries` meets its contract. The loop's invariant: the first j of the entries are written. Assumes nothing.
+use mathlib.Core.Path.{_≡_, refl, ap, _∙_}
+use mathlib.Core.List.{List}
+use Prim.Native.Nat.{ℕ, _+_, _-_, _≤_}
+use native.Mathlib.Omega.{arith}
+use borrow.Author.Needs.{needs}
+use lib.ListN.{length, set, length-set}
+use Rattle.base.specs.Walk.{written}
+use Rattle.base.proofs.Walks.{written-more}
+use Rattle.huge.proofs.write_entries.Statement.{statement}
+use Rattle.huge.proofs.write_entries.Tie as tie
+
+abbrev Inv-loop : tie.InvT-loop
+Inv-loop entries₀ v at g j₀ entries j = (j ≤ g) × (length entries ≡ length entries₀) × (entries ≡ written (λ i. v) entries₀ at j)
+
+abbrev μ-loop : tie.MeasureT-loop
+μ-loop entries₀ v at g j₀ entries j = g - j
+
+loop-holds : tie.Need-loop-holds Inv-loop μ-loop
+unfolding written
+loop-holds c = (omega arith, refl, refl)
+
+add-entries : tie.Need-add-entries Inv-loop μ-loop
+add-entries c = search needs
+
+mul-entries : tie.Need-mul-entries Inv-loop μ-loop
+mul-entries c = search needs
+
+slice-write-entries : tie.Need-slice-write-entries Inv-loop μ-loop
+slice-write-entries c = search needs
+
+add-j : tie.Need-add-j Inv-loop μ-loop
+add-j c = search needs
+
+loop-less : tie.Need-loop-less Inv-loop μ-loop
+loop-less c = search needs
+
+loop-again : tie.Need-loop-again Inv-loop μ-loop
+loop-again c =
+    let s = c .before .before .args in
+    let at = c .before .loop in (
+      omega arith,
+      simp length-set (at .inv .1),
+      ap (λ (l : List ℕ). set l (s .at + at .j) (s .v)) (at .inv .2) ∙ written-more (λ i. s .v) (s .entries .now) (s .at) (at .j),
+    )
+
+same-length : tie.Need-same-length Inv-loop μ-loop
+same-length c = search needs
+
+returns : tie.Need-returns Inv-loop μ-loop
+returns c =
+    let s = c .before .before .args in
+    let at = c .before .loop in
+    let e : at .j ≡ s .g = omega arith in
+    at .inv .2 ∙ ap (written (λ i. s .v) (s .entries .now) (s .at)) e
+
+pub write-entries-spec : {M : Type 1} → statement M
+write-entries-spec =
+    tie.close
+    (tie.spec
+    Inv-loop
+    μ-loop
+    loop-holds
+    add-entries
+    mul-entries
+    slice-write-entries
+    add-j
+    loop-less
+    loop-again
+    same-length
+    returns)

@@ -1,0 +1,20 @@
+-- `lower::get` meets its contract: the sized call at the huge order 9. Assumes nothing.
+use borrow.Author.Needs.{needs}
+use Rattle.base.specs.Size.{nine}
+use Rattle.lower.proofs.get.Statement.{statement}
+use Rattle.lower.proofs.get.Tie as tie
+
+get-requires : tie.Need-get-requires
+get-requires c κs = nine
+
+same-length : tie.Need-same-length
+same-length c = search needs
+
+same-length-2 : tie.Need-same-length-2
+same-length-2 c = search needs
+
+returns : tie.Need-returns
+returns c = search needs
+
+pub get-spec : {M : Type 1} → statement M
+get-spec = tie.close (tie.spec get-requires same-length same-length-2 returns)

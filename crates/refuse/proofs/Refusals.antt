@@ -1,0 +1,121 @@
+-- Document 01's refusals: the answer of each check, what the checks that passed show to the next, and how checks are grouped. Assumes nothing.
+use mathlib.Core.Path.{_≡_, refl, sym, _∙_}
+use mathlib.Core.Bool.{Bool, true, false}
+use Prim.Native.Nat.{ℕ, zero, suc, _+_, _-_, _*_, _/_, _^_, _≤_, _<_}
+use native.Mathlib.Omega.{arith}
+use lib.Dec.{leb, ltb}
+use borrow.Author.Tests.{lt-ltb, le-ltb, le-leb, lt-leb, ne-eqb, ltb-true, leb-true}
+use Rattle.base.specs.Code.{unless, orElse}
+use Rattle.base.specs.Size.{Huge}
+use Rattle.base.proofs.Codes.{stops, passes, none-of, holds}
+use Rattle.base.proofs.Sizes.{huge-high}
+use Rattle.shape.specs.Shape.{treeLog, isTree, topOrder, aligned, rowsNeeded, entriesNeeded}
+use Rattle.shape.specs.Refuse.{framesCode, lentCode, sizesCode, orderCode, Sized}
+use Rattle.shape.proofs.Laws.{tree-pow}
+use Rattle.shape.proofs.Lent.{sized}
+
+-- the first of three codes that is not 0 is the same however they are grouped
+pub regrouped : (a b c : ℕ) → orElse (orElse a b) c ≡ orElse a (orElse b c)
+unfolding orElse
+regrouped zero b c = refl
+regrouped (suc a) b c = simp (ne-eqb (suc a) 0 (λ e. omega arith))
+
+-- a test that holds gives no code: r is what the code's own test answers
+pub no-code : {r b : Bool} (c : ℕ) → r ≡ b → r ≡ true → 0 ≡ unless b c
+no-code c e q = rw (sym e ∙ q)
+
+-- and one that fails gives its code
+pub its-code : {r b : Bool} (c : ℕ) → r ≡ b → r ≡ false → c ≡ unless b c
+its-code c e q = rw (sym e ∙ q)
+
+-- ---- 1: the frames
+
+module _ (n : ℕ) where
+  -- no frames are too few
+  pub frames-none : n ≡ 0 → 1 ≡ framesCode n
+  frames-none e = rw e
+
+  -- one and more are enough, up to the limit
+  pub frames-within : (n ≡ 0 → ⊥) → n ≤ 1048576 → 0 ≡ framesCode n
+  frames-within s l = let some : 0 < n = omega arith in rw (lt-ltb 0 n some, le-leb n 1048576 l)
+
+  -- and above it they are too many
+  pub frames-past : (n ≡ 0 → ⊥) → 1048576 < n → 1 ≡ framesCode n
+  frames-past s l = let some : 0 < n = omega arith in rw (lt-ltb 0 n some, lt-leb n 1048576 l)
+
+-- frames that passed are within the limit
+pub frames-most : (n : ℕ) → framesCode n ≡ 0 → n ≤ 1048576
+frames-most zero e = omega arith
+frames-most (suc n) e = leb-true (suc n) 1048576 (holds _ 0 (rw (lt-ltb 0 (suc n) (omega arith)) at e))
+
+-- ---- 3: the lent slices, where r rows are needed and e entries, the entries by T's logarithm k
+
+module _ (h n t rl el : ℕ) {r : ℕ} (r-is : r ≡ rowsNeeded h n) where
+  -- rows too few
+  pub rows-short : rl < r → 3 ≡ lentCode h n t rl el
+  rows-short l = rw (← r-is, lt-leb r rl l)
+
+  module _ {k e : ℕ} (tree : isTree t ≡ true) (k-is : k ≡ treeLog t) (e-is : e ≡ entriesNeeded h n (2 ^ k)) (rows : r ≤ rl) where
+    -- the entries by the logarithm are those by T
+    needed : e ≡ entriesNeeded h n t
+    needed = rw (e-is, k-is, tree-pow t tree)
+
+    -- rows enough, and entries too few
+    pub entries-short : el < e → 3 ≡ lentCode h n t rl el
+    entries-short l = rw (← r-is, ← needed, le-leb r rl rows, lt-leb e el l)
+
+    -- both enough
+    pub both-lent : e ≤ el → 0 ≡ lentCode h n t rl el
+    both-lent l = rw (← r-is, ← needed, le-leb r rl rows, le-leb e el l)
+
+-- ---- 4: the order, where the top order is m
+
+module _ (h t o : ℕ) {m : ℕ} (m-is : m ≡ topOrder h t) where
+  -- at most the top order
+  pub order-within : o ≤ m → 0 ≡ orderCode h t o
+  order-within l = rw (← m-is, le-leb o m l)
+
+  -- above it
+  pub order-past : m < o → 4 ≡ orderCode h t o
+  order-past l = rw (← m-is, lt-leb o m l)
+
+module _ (h n t rl el o : ℕ) (e : orElse (sizesCode h n t rl el) (orderCode h t o) ≡ 0) where
+  -- where an order passed, the sizes before it did
+  pub order-sized : Sized h n t rl el
+  order-sized = sized h n t rl el (none-of (sizesCode h n t rl el) (orderCode h t o) e .0)
+
+  -- and the size of its block fits a word
+  pub order-low : Huge h → o < 64
+  order-low H =
+      let top : o ≤ topOrder h t = leb-true o (topOrder h t) (holds _ 3 (none-of (sizesCode h n t rl el) (orderCode h t o) e .1)) in
+      omega (arith, huge-high H, ltb-true (treeLog t) 10 (order-sized .tree))
+
+-- ---- 5 and 6: the end of a block of s frames, and then its alignment
+
+module _ (n f o : ℕ) {s : ℕ} (s-is : s ≡ 2 ^ o) where
+  -- past the end, whatever the alignment
+  past : n < f + 2 ^ o → 5 ≡ orElse (unless (leb (f + 2 ^ o) n) 5) (unless (aligned f o) 6)
+  past l = stops _ (rw (lt-leb (f + 2 ^ o) n l)) (λ e. omega arith)
+
+  -- a block larger than all frames ends past them
+  pub size-past : n < s → 5 ≡ orElse (unless (leb (f + 2 ^ o) n) 5) (unless (aligned f o) 6)
+  size-past l = past (omega arith)
+
+  -- and so does one that begins later than the last that fits
+  pub end-past : n - s < f → 5 ≡ orElse (unless (leb (f + 2 ^ o) n) 5) (unless (aligned f o) 6)
+  end-past l = past (omega arith)
+
+  -- any other leaves the answer to its alignment
+  pub end-within : {r : ℕ} → s ≤ n → f ≤ n - s → r ≡ unless (aligned f o) 6 → r ≡ orElse (unless (leb (f + 2 ^ o) n) 5) (unless (aligned f o) 6)
+  end-within l m e = let ends : f + 2 ^ o ≤ n = omega arith in passes {x = 0} (rw (le-leb (f + 2 ^ o) n ends)) refl e
+
+-- ---- 5: the first frame of a start row
+
+module _ (n row : ℕ) (some : 0 < n) where
+  -- a row up to that of the last frame begins below N
+  pub row-within : row ≤ (n - 1) / 64 → 0 ≡ unless (ltb (row * 64) n) 5
+  row-within l = let begins : row * 64 < n = omega arith in rw (lt-ltb (row * 64) n begins)
+
+  -- and a later one does not
+  pub row-past : (n - 1) / 64 < row → 5 ≡ unless (ltb (row * 64) n) 5
+  row-past l = let ends : n ≤ row * 64 = omega arith in rw (le-ltb (row * 64) n ends)

@@ -1,0 +1,109 @@
+// Refusals 1 to 6 of document 01, in their order, on natural numbers: no sum or product of any two numbers wraps.
+ghost use mathlib.Core.Path.{_≡_};
+ghost use Rattle.base.specs.Code.{orElse};
+ghost use Rattle.base.specs.Size.{Huge};
+ghost use Rattle.shape.specs.Refuse.{framesCode, treeCode, sizesCode, orderCode, blockCode, startCode};
+
+fn frames(n: usize) -> u32
+    ensures { λ r. ⌜ r ≡ framesCode n ⌝ }
+{
+    if n == 0 {
+        return 1;
+    }
+    if n <= shape::FRAMES_MAX { 0 } else { 1 }
+}
+
+fn tree(t: usize) -> u32
+    ensures { λ r. ⌜ r ≡ treeCode t ⌝ }
+{
+    if shape::is_tree(t) { 0 } else { 2 }
+}
+
+// 1, 2 and 3: what every call checks.
+pub fn sizes(h: usize, n: usize, t: usize, rows: usize, entries: usize) -> u32
+    requires { ⌜ Huge h ⌝ }
+    ensures { λ r. ⌜ r ≡ sizesCode h n t rows entries ⌝ }
+{
+    let code = frames(n);
+    if code != 0 {
+        return code;
+    }
+    let code = tree(t);
+    if code != 0 {
+        return code;
+    }
+    if rows < shape::rows_needed(h, n) {
+        return 3;
+    }
+    if entries < shape::entries_needed(h, shape::tree_log(t), n) {
+        return 3;
+    }
+    0
+}
+
+// 1 to 4.
+fn orders(h: usize, n: usize, t: usize, rows: usize, entries: usize, order: usize) -> u32
+    requires { ⌜ Huge h ⌝ }
+    ensures { λ r. ⌜ r ≡ orElse (sizesCode h n t rows entries) (orderCode h t order) ⌝ }
+{
+    let code = sizes(h, n, t, rows, entries);
+    if code != 0 {
+        return code;
+    }
+    if order <= shape::top_order(h, t) {
+        0
+    } else {
+        4
+    }
+}
+
+// 1 to 6, of a block at a frame.
+pub fn block(
+    h: usize,
+    n: usize,
+    t: usize,
+    rows: usize,
+    entries: usize,
+    frame: usize,
+    order: usize,
+) -> u32
+    requires { ⌜ Huge h ⌝ }
+    ensures { λ r. ⌜ r ≡ blockCode h n t rows entries frame order ⌝ }
+{
+    let code = orders(h, n, t, rows, entries, order);
+    if code != 0 {
+        return code;
+    }
+    let size = base::size(order);
+    if n < size {
+        return 5;
+    }
+    if n - size < frame {
+        return 5;
+    }
+    if shape::is_aligned(frame, order) {
+        0
+    } else {
+        6
+    }
+}
+
+// 1 to 5, of a start row.
+pub fn start(
+    h: usize,
+    n: usize,
+    t: usize,
+    rows: usize,
+    entries: usize,
+    row: usize,
+    order: usize,
+) -> u32
+    requires { ⌜ Huge h ⌝ }
+    ensures { λ r. ⌜ r ≡ startCode h n t rows entries row order ⌝ }
+{
+    let code = orders(h, n, t, rows, entries, order);
+    if code != 0 {
+        return code;
+    }
+    if row <= (n - 1) / 64 { 0 } else { 5 }
+}

@@ -1,0 +1,100 @@
+-- A get's loop over the entries of a tree: where a visit is, what it may touch, and what the get answers. Assumes nothing.
+use mathlib.Core.Path.{_≡_, refl, sym, ap, _∙_}
+use mathlib.Core.Bool.{Bool, true, false}
+use mathlib.Core.List.{List}
+use Prim.Native.Nat.{ℕ, _+_, _-_, _*_, _/_, _%_, _^_, _≤_, _<_}
+use native.Mathlib.Nat.{add-zero, div-add-mod', div-le-self, div-mul-le-self, mod-lt, mod-mod, mul-div-cancel}
+use native.Mathlib.Omega.{arith}
+use lib.Dec.{lit<}
+use lib.ListN.{set}
+use borrow.Author.Tests.{lt-ltb, le-ltb}
+use Rattle.base.specs.Code.{out}
+use Rattle.base.specs.Size.{Huge, rowsOf}
+use Rattle.base.proofs.Walks.{FirstAt, first-found, first-none}
+use Rattle.base.proofs.Rests.{wrap-next, wrap-first}
+use Rattle.shape.specs.Shape.{hugeOf, treeLog}
+use Rattle.shape.specs.Refuse.{Started}
+use Rattle.shape.specs.State.{Mem, mem, got, entryOf}
+use Rattle.shape.proofs.Laws.{huge-of-row, tree-pow, tree-pos, tree-high}
+use Rattle.shape.proofs.Lent.{start-tree}
+use Rattle.small.specs.declared.Visit.{Visit}
+use Rattle.small.specs.declared.Visit.the-variants.{Place}
+use Rattle.small.specs.Small.{turned, visit, stops, entryAt, visitsPassed, ended, getSmall}
+use Rattle.small.proofs.Turns.{turn-done}
+use Rattle.small.proofs.Visits.{Free}
+
+-- ---- the entries of a tree, from entry x on, wrapping
+
+module _ (t x : ℕ) (pos : 0 < t) where
+  -- none is visited before x
+  pub entry-start : x ≡ entryAt t x 0
+  entry-start = sym (rw (add-zero (x % t), mod-mod x t) (div-add-mod' x t))
+
+  -- each is one of the tree's
+  pub entry-in : (j : ℕ) → entryAt t x j < x / t * t + t
+  entry-in j = omega (arith, mod-lt (x % t + j) pos)
+
+  module _ (j y : ℕ) (at : y ≡ entryAt t x j) where
+    -- one visit more
+    next : x % t + (j + 1) ≡ x % t + j + 1
+    next = omega arith
+
+    -- behind an entry comes the next
+    pub entry-next : (y + 1 ≡ x / t * t + t → ⊥) → y + 1 ≡ entryAt t x (j + 1)
+    entry-next ne =
+        let w = wrap-next (x % t + j) ((x % t + j) % t) t (mod-lt (x % t + j) pos) refl (λ q. ne (omega arith)) in
+        rw next (omega arith)
+
+    -- and behind the tree's last the tree's first
+    pub entry-wrap : y + 1 ≡ x / t * t + t → x / t * t ≡ entryAt t x (j + 1)
+    entry-wrap e =
+        let w = wrap-first (x % t + j) ((x % t + j) % t) t (mod-lt (x % t + j) pos) refl (omega arith) in
+        rw next (omega arith)
+
+-- ---- what a get without a frame may touch
+
+module _ {h n t rl el row o : ℕ} (H : Huge h) (s : Started h n t rl el row o) where
+  -- the huge frame of the start row, as `row_huge` says it
+  pub start-huge : hugeOf h (row * 64) ≡ row / rowsOf h
+  start-huge = rw (huge-of-row (row * 64) H, mul-div-cancel row (lit< tt))
+
+  -- the first entry of its tree, as `tree_huge` says it
+  pub start-first : {k y x first : ℕ} → k ≡ treeLog t → x ≡ hugeOf h (row * 64) → y ≡ x / 2 ^ k → first ≡ y * 2 ^ k → first ≡ row / rowsOf h / t * t
+  start-first k-is x-is y-is first-is = rw (first-is, y-is, x-is, k-is, tree-pow t (s .sized .tree), start-huge)
+
+  -- which is far below a word's end
+  pub first-low : row / rowsOf h / t * t < 16384
+  first-low = omega (arith, s .begins, s .sized .most, div-le-self row (rowsOf h), div-mul-le-self (row / rowsOf h) t)
+
+  -- the entry of each visit is lent
+  pub entry-lent : (j : ℕ) → entryAt t (row / rowsOf h) j < el
+  entry-lent j = omega (arith, entry-in t (row / rowsOf h) (tree-pos t (s .sized .tree)) j, start-tree H s)
+
+  -- and far below a word's end
+  pub entry-low : (j : ℕ) → entryAt t (row / rowsOf h) j < 1048576
+  entry-low j = omega (arith, entry-in t (row / rowsOf h) (tree-pos t (s .sized .tree)) j, tree-high t (s .sized .tree), first-low)
+
+-- ---- what a get answers
+
+-- whether the visit after j others ends a get
+abbrev pub stopsAt : ℕ → ℕ → ℕ → Mem → ℕ → ℕ → ℕ → Bool
+stopsAt h n t m row o j = stops (visit h n m row o (entryAt t (row / rowsOf h) j))
+
+module _ (h n t : ℕ) (m : Mem) (row o j : ℕ) (at : FirstAt (stopsAt h n t m row o) t j) where
+  -- the visit after j others ends it
+  pub get-ended : j < t → (v : Visit) → v ≡ visit h n m row o (entryAt t (row / rowsOf h) j) → stops v ≡ true → ended h m o (j + 1) v ≡ getSmall h n t m row o
+  unfolding getSmall visitsPassed
+  get-ended l v e s = rw (← first-found (stopsAt h n t m row o) t j at l (ap stops (sym e) ∙ s), lt-ltb j t l, ← e)
+
+  -- no visit does
+  pub get-none : t ≤ j → out (got 7 0 t) m ≡ getSmall h n t m row o
+  unfolding getSmall visitsPassed
+  get-none l = rw (← first-none (stopsAt h n t m row o) t j at l, le-ltb j t l)
+
+-- the visit after j others answers block f, which is then turned, and the entry lowered
+pub get-taken : (h n t : ℕ) (rs es : List ℕ) (row o j : ℕ) → FirstAt (stopsAt h n t (mem rs es) row o) t j → j < t
+    → {x : ℕ} (f : ℕ) → x ≡ entryAt t (row / rowsOf h) j → Place f ≡ visit h n (mem rs es) row o x → Free h n rs es o x f
+    → {r size : ℕ} {left : List ℕ} → out r left ≡ turned rs f o false → size ≡ 2 ^ o
+    → out (got 0 f (j + 1)) (mem left (set es x (entryOf es x - size))) ≡ getSmall h n t (mem rs es) row o
+get-taken h n t rs es row o j at l f x-is e free turn size-is =
+    rw (turn-done rs f o false turn (free .clear) .1, size-is, ← free .huge) (get-ended h n t (mem rs es) row o j at l (Place f) (rw x-is at e) refl)

@@ -1,0 +1,5 @@
+pub mod Turns
+pub mod Below
+pub mod Answers
+pub mod Visits
+pub mod Gets

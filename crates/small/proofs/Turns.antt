@@ -1,0 +1,125 @@
+-- A block turned within the rows of its huge frame: what is done to these rows, put back in their place, is done to all rows. Assumes nothing.
+use mathlib.Core.Path.{_≡_, refl, sym, ap, _∙_}
+use mathlib.Core.Bool.{Bool, true, false, not}
+use mathlib.Core.List.{List, _++_}
+use Prim.Native.Nat.{ℕ, _+_, _-_, _*_, _/_, _%_, _^_, _≤_, _<_}
+use native.Mathlib.Nat.{mul-assoc, sub-add-cancel, mod-lt, div-add-mod'}
+use native.Mathlib.Omega.{arith}
+use lib.Pow.{pow-pos, mod-mod-pow}
+use lib.ListN.{length, take, drop, length-drop, take-append-drop}
+use lib.Seq.{length-take-le}
+use borrow.Author.Tests.{eq-eqb, le-leb}
+use Rattle.base.specs.Code.{Out, out, orElse}
+use Rattle.base.specs.Size.{Huge, rowsOf}
+use Rattle.base.specs.Bits.{blockIs, withBits}
+use Rattle.base.proofs.Sizes.{rows-frames, pow-divides}
+use Rattle.base.proofs.Rests.{block-ends}
+use Rattle.base.proofs.Parts.{block-part, with-part}
+use Rattle.bitfield.specs.Calls.{blockCode, toggle}
+use Rattle.bitfield.proofs.Laws.{Within}
+use Rattle.bitfield.proofs.Toggles.{toggle-turned, toggle-left}
+use Rattle.small.specs.Small.{turned}
+
+-- a block that lies in a huge frame is not refused
+unrefused : {h len p o : ℕ} → Within h len p o → blockCode h len p o ≡ 0
+unfolding orElse
+unrefused w = rw (eq-eqb _ _ (w .rows), le-leb _ _ (w .order), le-leb _ _ (w .ends), eq-eqb _ _ (w .aligned))
+
+-- the first row of a frame's huge frame begins with the huge frame's first frame
+pub first-row : {h : ℕ} → Huge h → (f : ℕ) → f / 2 ^ h * rowsOf h * 64 ≡ f / 2 ^ h * 2 ^ h
+first-row {h} H f = mul-assoc (f / 2 ^ h) (rowsOf h) 64 ∙ ap (λ (k : ℕ). f / 2 ^ h * k) (sym (rows-frames H))
+
+-- so that row is no later than the frame's own
+pub first-row-low : {h : ℕ} → Huge h → (f : ℕ) → f / 2 ^ h * rowsOf h * 64 ≤ f
+first-row-low {h} H f = omega (arith, first-row H f, div-add-mod' f (2 ^ h))
+
+-- ---- an aligned block of at most a huge frame
+
+module _ {h : ℕ} (f o : ℕ) (low : o ≤ h) (even : f % 2 ^ o ≡ 0) where
+  -- its place in its huge frame is aligned
+  place-even : f % 2 ^ h % 2 ^ o ≡ 0
+  place-even = ap (λ (k : ℕ). f % 2 ^ k % 2 ^ o) (sym (sub-add-cancel low)) ∙ mod-mod-pow f (h - o) o ∙ even
+
+  -- it ends there
+  place-ends : f % 2 ^ h + 2 ^ o ≤ 2 ^ h
+  place-ends =
+      let w = pow-divides o h low in
+      let l : f % 2 ^ h < 2 ^ (h - o) * 2 ^ o = rw w (mod-lt f (pow-pos h)) in
+      rw w at (block-ends (f % 2 ^ h) (2 ^ o) (2 ^ (h - o)) place-even l)
+
+  -- so it lies in one huge frame
+  pub placed-within : Within h (rowsOf h) (f % 2 ^ h) o
+  placed-within = record { rows = refl; order = low; ends = place-ends; aligned = place-even }
+
+module _ {h : ℕ} (H : Huge h) (rows : List ℕ) (f o : ℕ) (b : Bool) (low : o ≤ h) (even : f % 2 ^ o ≡ 0) (lent : (f / 2 ^ h + 1) * rowsOf h ≤ length rows) where
+  -- the huge frame's k rows from row a on are lent, with the block at their place p, and come back as ys
+  pub turned-part : (a k p : ℕ) → a ≡ f / 2 ^ h * rowsOf h → k ≡ rowsOf h → p ≡ f % 2 ^ h → (r : ℕ) (ys : List ℕ)
+      → out r ys ≡ toggle h (take k (drop a rows)) p o b → out r (take a rows ++ (ys ++ drop k (drop a rows))) ≡ turned rows f o b
+  unfolding turned
+  turned-part a k p ea ek ep r ys e = go (blockIs b rows f (2 ^ o)) refl
+    where
+      part : List ℕ
+      part = take k (drop a rows)
+
+      -- the rows with zs in the place of the part
+      with : List ℕ → List ℕ
+      with zs = take a rows ++ (zs ++ drop k (drop a rows))
+
+      back : with part ≡ rows
+      back = ap (λ (t : List ℕ). take a rows ++ t) (take-append-drop k (drop a rows)) ∙ take-append-drop a rows
+
+      fits : a + k ≤ length rows
+      fits = rw (ea, ek) (omega arith)
+
+      long : length part ≡ rowsOf h
+      long = length-take-le k (drop a rows) (omega (arith, fits, length-drop a rows)) ∙ ek
+
+      within : Within h (length part) p o
+      within = rw (long, ep) (placed-within f o low even)
+
+      ends : p + 2 ^ o ≤ k * 64
+      ends = rw (ek, ← rows-frames H) (within .ends)
+
+      at : a * 64 + p ≡ f
+      at = rw (ea, ep, first-row H f) (div-add-mod' f (2 ^ h))
+
+      is : blockIs b part p (2 ^ o) ≡ blockIs b rows f (2 ^ o)
+      is = block-part b rows a k p (2 ^ o) ends ∙ ap (λ (x : ℕ). blockIs b rows x (2 ^ o)) at
+
+      write : with (withBits (not b) part p (p + 2 ^ o)) ≡ withBits (not b) rows f (f + 2 ^ o)
+      write =
+          let last : a * 64 + (p + 2 ^ o) ≡ f + 2 ^ o = omega (arith, at) in
+          with-part (not b) rows a k p (p + 2 ^ o) fits (omega arith) ends ∙ rw (last, at)
+
+      go : (t : Bool) → blockIs b rows f (2 ^ o) ≡ t → out r (with ys) ≡ turned rows f o b
+      go true q = ap (λ (x : Out ℕ (List ℕ)). out (x .answer) (with (x .left))) (e ∙ sym (toggle-turned h part p o b (unrefused within) (is ∙ q))) ∙ ap (out 0) write ∙ rw q
+      go false q = ap (λ (x : Out ℕ (List ℕ)). out (x .answer) (with (x .left))) (e ∙ sym (toggle-left h part p o b (unrefused within) (is ∙ q))) ∙ ap (out 7) back ∙ rw q
+
+-- ---- what a turn leaves
+
+module _ (rows : List ℕ) (f o : ℕ) (b : Bool) {r : ℕ} {left : List ℕ} (e : out r left ≡ turned rows f o b) where
+  -- where the bits are all as expected, they are turned
+  pub turn-done : blockIs b rows f (2 ^ o) ≡ true → (r ≡ 0) × (left ≡ withBits (not b) rows f (f + 2 ^ o))
+  unfolding turned
+  turn-done q = let w = rw q at e in (ap (λ (x : Out ℕ (List ℕ)). x .answer) w, ap (λ (x : Out ℕ (List ℕ)). x .left) w)
+
+  -- else the rows are left
+  pub turn-left : blockIs b rows f (2 ^ o) ≡ false → (r ≡ 7) × (left ≡ rows)
+  unfolding turned
+  turn-left q = let w = rw q at e in (ap (λ (x : Out ℕ (List ℕ)). x .answer) w, ap (λ (x : Out ℕ (List ℕ)). x .left) w)
+
+  -- the answer 0 tells that they were turned
+  pub if-turned : r ≡ 0 → (blockIs b rows f (2 ^ o) ≡ true) × (left ≡ withBits (not b) rows f (f + 2 ^ o))
+  if-turned z = go (blockIs b rows f (2 ^ o)) refl
+    where
+      go : (t : Bool) → blockIs b rows f (2 ^ o) ≡ t → (t ≡ true) × (left ≡ withBits (not b) rows f (f + 2 ^ o))
+      go true q = (refl, turn-done q .1)
+      go false q = absurd (omega (arith, turn-left q .0))
+
+  -- and any other that they were left
+  pub if-left : (r ≡ 0 → ⊥) → (blockIs b rows f (2 ^ o) ≡ false) × (left ≡ rows)
+  if-left n = go (blockIs b rows f (2 ^ o)) refl
+    where
+      go : (t : Bool) → blockIs b rows f (2 ^ o) ≡ t → (t ≡ false) × (left ≡ rows)
+      go true q = absurd (n (turn-done q .0))
+      go false q = (refl, turn-left q .1)

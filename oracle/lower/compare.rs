@@ -1,0 +1,196 @@
+//! Compares our lower level's calls with the Rust's and with a model of document 01: answers, and every row
+//! and entry after each call. Run by oracle/compare, as: compare SEED RUNS EDGES LIBRARIES -- WORKER..
+
+mod inputs;
+#[path = "../library.rs"]
+mod library;
+mod model;
+mod ours;
+#[path = "../process.rs"]
+mod process;
+#[path = "../progress.rs"]
+mod progress;
+#[path = "../random.rs"]
+mod random;
+mod rust;
+mod sides;
+mod tally;
+
+use std::mem::take;
+use std::process::exit;
+
+use inputs::{MOST, Run, TREES};
+use ours::Worker;
+use progress::Progress;
+use random::Random;
+use rust::Rust;
+use sides::{Call, Outcome, Room, What, by_model, by_rust};
+use tally::Tally;
+
+/// Calls in a run, after those it begins with.
+const RUN: usize = 64;
+
+/// A room, and the calls on it with what they do by the model. What a kept call left is there for the next.
+struct Case {
+    room: Room,
+    calls: Vec<(Call, bool, Outcome)>,
+}
+
+/// The comparison: its sides, and what it has counted.
+struct Comparison {
+    ours: Worker,
+    rust: Vec<Rust>,
+    /// The room after the calls so far.
+    now: Room,
+    /// The batch that is being gathered, and the one that our side is at.
+    gathered: Vec<Case>,
+    sent: Vec<Case>,
+    states: u64,
+    tally: Tally,
+}
+
+impl Comparison {
+    /// The calls from here on are on this room.
+    fn state(&mut self, room: Room) {
+        self.ours.state(&room);
+        self.gathered.push(Case { room: room.clone(), calls: Vec::new() });
+        self.now = room;
+        self.states += 1;
+    }
+
+    /// Takes a call into the batch, and hands back what it does.
+    fn call(&mut self, call: Call, keep: bool) -> Outcome {
+        let outcome = by_model(&call, &self.now);
+        self.ours.call(&call, keep);
+        self.gathered.last_mut().unwrap().calls.push((call, keep, outcome.clone()));
+        if keep {
+            self.now.change(&outcome.changes);
+        }
+        if self.ours.full() {
+            self.turn();
+            // Our side still has the room.
+            self.gathered.push(Case { room: self.now.clone(), calls: Vec::new() });
+        }
+        outcome
+    }
+
+    /// Takes our answers to the batch that was sent, sends the next, and judges the former meanwhile.
+    fn turn(&mut self) {
+        let cases = take(&mut self.sent);
+        let answers = (!cases.is_empty()).then(|| self.ours.receive());
+        self.sent = take(&mut self.gathered);
+        if !self.sent.is_empty() {
+            self.ours.send();
+        }
+        let Some(mut answers) = answers else { return };
+        for Case { mut room, calls } in cases {
+            for (call, keep, model) in calls {
+                let ours = answers.next();
+                self.judge(&call, &room, &ours, &model);
+                self.tally.add(&call, &ours);
+                if keep {
+                    room.change(&model.changes);
+                }
+            }
+        }
+    }
+
+    /// Holds our outcome to the model's, and both to the Rust's wherever the Rust has one.
+    fn judge(&self, call: &Call, before: &Room, ours: &Outcome, model: &Outcome) {
+        if model.code != 0 && model.code != 7 {
+            if ours != model {
+                differ(call, before, &[("ours", ours), ("document 01", model)]);
+            }
+            return;
+        }
+        let rust = self.rust.iter().find(|rust| rust.t == call.t).expect("a build for each tree size");
+        let mut rust = by_rust(rust, call, before);
+        // The Rust counts no probes.
+        rust.numbers[1] = model.numbers[1];
+        if ours != model || rust != *model {
+            differ(call, before, &[("ours", ours), ("document 01", model), ("the Rust", &rust)]);
+        }
+    }
+}
+
+/// Prints what it takes to see the difference again, and ends the run.
+fn differ(call: &Call, before: &Room, sides: &[(&str, &Outcome)]) -> ! {
+    println!("lower: a difference in {call}");
+    println!("  before:\n    {}", before.print(call));
+    for (name, Outcome { code, numbers, changes }) in sides {
+        println!("  {name}: code {code}, numbers {numbers:?}{}", before.print_changes(call, changes));
+    }
+    exit(1);
+}
+
+/// Makes the calls that a run chooses.
+fn follow(it: &mut Comparison, run: &mut Run, random: &mut Random) {
+    for _ in 0..RUN {
+        let call = run.next(random);
+        let outcome = it.call(call, true);
+        run.saw(&call, &outcome);
+    }
+}
+
+fn main() {
+    let words: Vec<String> = std::env::args().collect();
+    let number = |i: usize| words[i].parse::<u64>().expect("a number");
+    let (mut random, runs, edges) = (Random(number(1)), number(2), number(3));
+    let split = words.iter().position(|word| word == "--").expect("--");
+    let mut it = Comparison {
+        ours: Worker::start(&words[split + 1..]),
+        rust: words[4..split].iter().map(|path| Rust::load(path)).collect(),
+        now: Room::new((0, 0), &mut random),
+        gathered: Vec::new(),
+        sent: Vec::new(),
+        states: 0,
+        tally: Tally::default(),
+    };
+    let mut progress = Progress::new("lower");
+
+    // Each named number of frames from both starts; the largest, whose states are slow, from one.
+    for t in TREES {
+        let named =
+            inputs::named_frames(t).into_iter().flat_map(|n| [(n, What::FreeAll), (n, What::ReserveAll)]);
+        let largest = [(MOST, What::FreeAll), (MOST - 1, What::ReserveAll)];
+        for (n, start) in named.chain(largest) {
+            let (room, mut run, start) = Run::from_start(n, t, start, &mut random);
+            it.state(room);
+            it.call(start, true);
+            run.tour(&mut random, |call| it.call(call, true));
+            follow(&mut it, &mut run, &mut random);
+        }
+        for (room, calls) in inputs::refused_with_8(t, &mut random) {
+            it.state(room);
+            calls.into_iter().for_each(|call| drop(it.call(call, false)));
+        }
+    }
+    for done in 0..runs {
+        let t = TREES[done as usize % TREES.len()];
+        let n = inputs::frames(t, &mut random);
+        let (room, mut run) = Run::on_state(n, t, &mut random);
+        it.state(room);
+        follow(&mut it, &mut run, &mut random);
+        progress.say(done, runs, "runs");
+    }
+    for done in 0..edges {
+        let t = TREES[done as usize % TREES.len()];
+        let n = inputs::frames(t, &mut random);
+        let (room, _) = Run::on_state(n, t, &mut random);
+        it.state(room);
+        for call in inputs::every_edge(n, t, &mut random) {
+            it.call(call, false);
+        }
+        progress.say(done, edges, "states with every edge");
+    }
+    it.turn();
+    it.turn();
+    it.ours.end();
+
+    it.tally.demand_all();
+    let [calls, both, refusals] = it.tally.figures();
+    println!(
+        "lower: {} states, {calls} calls, {both} of them answered by the Rust too, {refusals} refusals, 0 differences",
+        it.states
+    );
+}
