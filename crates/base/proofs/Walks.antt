@@ -183,29 +183,6 @@ unfolding all
 all-same p q zero i f = refl
 all-same p q (suc n) i f = rw (all, f i (omega arith) (omega arith), all-same p q n (suc i) (λ j a b. f j (omega arith) (omega arith)))
 
--- a loop that counts: what is counted so far, and what is left
-module _ (p : ℕ → Bool) (n : ℕ) where
-  abbrev pub CountAt : ℕ → ℕ → Type 0
-  CountAt i c = (i ≤ n) × ((c ≤ i) × (c + count p (n - i) i ≡ count p n 0))
-
-  pub count-start : CountAt 0 0
-  count-start = (omega arith, (omega arith, zero-add _ ∙ rw sub-zero))
-    where
-      sub-zero : n - 0 ≡ n
-      sub-zero = omega arith
-
-  pub count-yes : (i c : ℕ) → CountAt i c → i < n → p i ≡ true → CountAt (i + 1) (c + 1)
-  unfolding count
-  count-yes i c a h e = (omega arith, (omega arith, omega (arith, ap (count p (n - (i + 1))) (add-one i), rw (sub-step n i h, count, e) at (a .1 .1))))
-
-  pub count-no : (i c : ℕ) → CountAt i c → i < n → p i ≡ false → CountAt (i + 1) c
-  unfolding count
-  count-no i c a h e = (omega arith, (omega arith, omega (arith, ap (count p (n - (i + 1))) (add-one i), rw (sub-step n i h, count, e) at (a .1 .1))))
-
-  pub count-end : (i c : ℕ) → CountAt i c → n ≤ i → c ≡ count p n 0
-  unfolding count
-  count-end i c a h = omega (arith, rw (sub-end n i h, count) at (a .1 .1))
-
 -- a walk over a range in two parts
 pub all-parts : (p : ℕ → Bool) (a b i : ℕ) → all p (a + b) i ≡ pick (all p a i) (all p b (i + a)) false
 unfolding all

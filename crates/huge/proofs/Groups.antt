@@ -15,11 +15,11 @@ use Rattle.shape.proofs.Lent.{block-entries, start-tree}
 use Rattle.huge.specs.Huge.{groupOf, groupAt}
 use Rattle.huge.proofs.Wraps.{step-next, step-first, step-ends, step-rest}
 
--- the order of a block that passed the refusals is less than ten above the huge order
+-- an order that passed the refusals is less than ten above the huge order
 pub order-low : {h n t rl el : ℕ} (o : ℕ) → Sized h n t rl el → o ≤ topOrder h t → o - h < 10
 order-low {t = t} o s l = omega (arith, ltb-true (treeLog t) 10 (s .tree))
 
--- and its group's entries are lent
+-- the entries of a block that passed the refusals are lent
 pub group-lent : {h n t rl el f o at g : ℕ} → Huge h → h ≤ o → Blocked h n t rl el f o → at ≡ hugeOf h f → g ≡ groupOf h o → at + g ≤ el
 group-lent H l b at-is g-is = rw (at-is, g-is) (block-entries H b l)
 
@@ -41,12 +41,14 @@ pub record Tree (t g x first c lent : ℕ) : Type 0 where
   pub ends : first + t ≤ lent
   pub low : first + t ≤ 1048576
 
--- the code's tree of a start row that passed the refusals: k is the logarithm of the tree size, and x is huge frame of tree y
+-- the tree of a start row that passed the refusals, as the code computes it: k is the logarithm of its size, x a huge frame of it and y its number
 module _ {h n t rl el row o : ℕ} (H : Huge h) (s : Started h n t rl el row o) (k x y first : ℕ) (k-is : k ≡ treeLog t) (x-is : x ≡ hugeOf h (row * 64))
     (y-is : y ≡ x / 2 ^ k) (first-is : first ≡ y * 2 ^ k) where
+  -- k tells its size
   t-is : 2 ^ k ≡ t
   t-is = rw k-is (tree-pow t (s .sized .tree))
 
+  -- it begins before x, at a multiple of its size
   begins : first ≡ x / t * t
   begins = rw (first-is, y-is, t-is)
 
@@ -83,7 +85,8 @@ module _ {t g x first c lent : ℕ} (T : Tree t g x first c lent) where
       let p : 0 < t = rw (← T .whole) (mul-pos (T .some) (T .wide)) in
       let l : x % t / g * g < t = omega (arith, mod-lt x p) in
       let s : x % t / g * g + 0 * g ≡ x % t / g * g = omega arith in
-      rw (s, mod-eq-of-lt l) (omega arith)
+      let z : (x % t / g * g + 0 * g) % t ≡ x % t / g * g = ap (λ (r : ℕ). r % t) s ∙ mod-eq-of-lt l in
+      omega arith
 
   module _ (j at : ℕ) (here : at ≡ groupAt t g x j) where
     -- each group ends in the tree
@@ -93,6 +96,7 @@ module _ {t g x first c lent : ℕ} (T : Tree t g x first c lent) where
         let l : (x % t / g * g + j * g) % t + g ≤ t = rw s (rw (T .whole) at (step-ends c g (T .some) (T .wide) (x % t / g + j))) in
         omega (arith, T .begins)
 
+    -- one group further
     one-more : x % t / g * g + j * g + g ≡ x % t / g * g + (j + 1) * g
     one-more = omega arith
 

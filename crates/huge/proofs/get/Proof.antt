@@ -27,7 +27,7 @@ abbrev μ-loop : tie.MeasureT-loop
 short : (c : tie.Start Inv-loop μ-loop) → c .args .order - c .args .h < 10
 short c = order-low _ (c .pre .2 .1 .sized) (c .pre .2 .1 .top)
 
--- and so is a tree's
+-- the logarithm of the tree size is less than ten
 log-low : (c : tie.After-tree-log Inv-loop μ-loop) → c .tree-log .result < 10
 log-low c = rw (c .tree-log .ensures) (ltb-true _ 10 (c .before .before .pre .2 .1 .sized .tree))
 
@@ -151,7 +151,8 @@ returns c =
     let e = c .before .before .before .before .before in
     let a = e .before .before .before in
     let in-loop = e .before .before .loop-test .taken in
-    get-found _ _ _ _ _ _ _ _ _ _ (wide-is (a .before)) (huge-is (a .before)) (groups-are (tree (a .before)))
+    let s = start (a .before) .args in
+    get-found (s .h) (s .n) (s .t) (s .entries .now) (s .row) (s .order) _ _ _ _ (wide-is (a .before)) (huge-is (a .before)) (groups-are (tree (a .before)))
     (first-found _ _ _ (a .loop .inv .2) in-loop (answer e ∙ c .before .before .before .before .if1 .taken))
     in-loop (rw (a .loop .inv .0, a .loop .inv .1) at (c .before .before .take .ensures))
 
@@ -184,8 +185,9 @@ same-length-2 c = ap length (c .before .loop .inv .0)
 returns-2 : tie.Need-returns-2 Inv-loop μ-loop
 returns-2 c =
     let a = c .before in
+    let s = start (a .before) .args in
     rw (a .loop .inv .0)
-    (get-none _ _ _ _ _ _ _ _ _ _ (wide-is (a .before)) (huge-is (a .before)) (groups-are (tree (a .before)))
+    (get-none (s .h) (s .n) (s .t) (s .entries .now) (s .row) (s .order) _ _ _ _ (wide-is (a .before)) (huge-is (a .before)) (groups-are (tree (a .before)))
     (first-none _ _ _ (a .loop .inv .2) (c .loop-test .left)) (c .loop-test .left))
 
 pub get-spec : {M : Type 1} → statement M

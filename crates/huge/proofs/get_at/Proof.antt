@@ -41,8 +41,10 @@ returns c =
     let t = c .before .before .before .before in
     let w = t .before .before in
     let g = w .before .before in
+    let s = g .before .before .before .args in
     rw (c .before .before .write-entries .ensures)
-    (get-at-done _ _ _ _ _ _ _ (w .whole .ensures) (g .before .frame-huge .ensures) (g .size .ensures) (sym (t .before .entries-are .ensures) ∙ t .if1 .taken))
+    (get-at-done (s .h) (s .entries .now) (s .frame) (s .order) _ _ (g .before .frame-huge .ensures) (g .size .ensures) _ (w .whole .ensures)
+    (sym (t .before .entries-are .ensures) ∙ t .if1 .taken))
 
 same-length-2 : tie.Need-same-length-2
 same-length-2 c = search needs
@@ -51,7 +53,9 @@ returns-2 : tie.Need-returns-2
 returns-2 c =
     let w = c .before .before in
     let g = w .before .before in
-    get-at-held _ _ _ _ _ _ _ (w .whole .ensures) (g .before .frame-huge .ensures) (g .size .ensures) (sym (c .before .entries-are .ensures) ∙ c .if1 .left)
+    let s = g .before .before .before .args in
+    get-at-held (s .h) (s .entries .now) (s .frame) (s .order) _ _ (g .before .frame-huge .ensures) (g .size .ensures) _ (w .whole .ensures)
+    (sym (c .before .entries-are .ensures) ∙ c .if1 .left)
 
 pub get-at-spec : {M : Type 1} → statement M
 get-at-spec =

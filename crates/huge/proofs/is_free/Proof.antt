@@ -1,8 +1,9 @@
 -- `huge::is_free` meets its contract: the entries of the group are lent, and it asks them. Assumes nothing.
+use mathlib.Core.Path.{_∙_}
 use native.Mathlib.Omega.{arith}
 use borrow.Author.Needs.{needs}
-use Rattle.huge.specs.Huge.{isFreeHuge}
 use Rattle.huge.proofs.Groups.{order-low, group-lent}
+use Rattle.huge.proofs.Cases.{free-by-entries}
 use Rattle.huge.proofs.is_free.Statement.{statement}
 use Rattle.huge.proofs.is_free.Tie as tie
 
@@ -26,10 +27,12 @@ entries-are-requires c κs =
     group-lent (pre .0) (pre .1) (pre .2 .3) (c .before .frame-huge .ensures) (c .size .ensures)
 
 returns : tie.Need-returns
-unfolding isFreeHuge
 returns c =
-    let g = c .before in
-    rw (← g .before .frame-huge .ensures, ← g .before .before .whole .ensures, ← g .size .ensures) (c .entries-are .ensures)
+    let at = c .before .before in
+    let w = at .before in
+    let s = w .before .before .args in
+    c .entries-are .ensures
+    ∙ free-by-entries (s .h) (s .entries .now) (s .frame) (s .order) _ _ (at .frame-huge .ensures) (c .before .size .ensures) _ (w .whole .ensures)
 
 pub is-free-spec : {M : Type 1} → statement M
 is-free-spec = tie.close (tie.spec whole-requires frame-huge-requires sub-size size-requires entries-are-requires returns)

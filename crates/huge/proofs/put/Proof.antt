@@ -41,8 +41,10 @@ returns c =
     let w = c .before .before .before in
     let t = w .before .before in
     let g = t .before .before .before in
+    let s = g .before .before .before .args in
     rw (c .before .before .write-entries .ensures)
-    (put-done _ _ _ _ _ _ _ (w .whole .ensures) (g .before .frame-huge .ensures) (g .size .ensures) (sym (t .before .entries-are .ensures) ∙ t .if1 .taken))
+    (put-done (s .h) (s .entries .now) (s .frame) (s .order) _ _ (g .before .frame-huge .ensures) (g .size .ensures) _ (w .whole .ensures)
+    (sym (t .before .entries-are .ensures) ∙ t .if1 .taken))
 
 same-length-2 : tie.Need-same-length-2
 same-length-2 c = search needs
@@ -50,7 +52,8 @@ same-length-2 c = search needs
 returns-2 : tie.Need-returns-2
 returns-2 c =
     let g = c .before .before .before in
-    put-refused _ _ _ _ _ _ (g .before .frame-huge .ensures) (g .size .ensures) (sym (c .before .entries-are .ensures) ∙ c .if1 .left)
+    let s = g .before .before .before .args in
+    put-refused (s .h) (s .entries .now) (s .frame) (s .order) _ _ (g .before .frame-huge .ensures) (g .size .ensures) (sym (c .before .entries-are .ensures) ∙ c .if1 .left)
 
 pub put-spec : {M : Type 1} → statement M
 put-spec =

@@ -77,10 +77,11 @@ loop-holds c =
 entry-read : (a : tie.At-loop Inv-loop μ-loop) → a .loop .x < length (a .loop .entries)
 entry-read a = let s = entry (a .before) in rw (a .loop .inv .1, a .loop .inv .2) (entry-lent (s .pre .0) (s .pre .2) (a .loop .j))
 
+-- and far below a word's end
 entry-small : (a : tie.At-loop Inv-loop μ-loop) → a .loop .x < 1048576
 entry-small a = let s = entry (a .before) in rw (a .loop .inv .2) (entry-low (s .pre .0) (s .pre .2) (a .loop .j))
 
--- so are the rows of a huge frame that begins below N
+-- the rows of a huge frame that begins below N are lent too
 rows-read : (a : tie.At-loop Inv-loop μ-loop) (x : ℕ) → let s = entry (a .before) .args in
     x * 2 ^ s .h < s .n → (x + 1) * rowsOf (s .h) ≤ length (a .loop .rows)
 rows-read a x l = let s = entry (a .before) in rw (a .loop .inv .0) (present-rows (s .pre .0) (s .pre .2 .sized) x l)

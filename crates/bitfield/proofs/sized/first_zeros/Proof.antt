@@ -27,7 +27,7 @@ size-requires : tie.Need-size-requires
 size-requires c κs = omega (arith, huge-high (c .before .before .before .before .pre))
 
 sub-find-in-rows : tie.Need-sub-find-in-rows
-sub-find-in-rows c = omega (arith, c .size .ensures, pow-pos (c .before .before .before .before .before .args .h - 6))
+sub-find-in-rows c = rw (c .size .ensures) (pow-pos _)
 
 find-in-rows-requires : tie.Need-find-in-rows-requires
 find-in-rows-requires c κs =
