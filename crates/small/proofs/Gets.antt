@@ -5,13 +5,14 @@ use mathlib.Core.List.{List}
 use Prim.Native.Nat.{ℕ, _+_, _-_, _*_, _/_, _%_, _^_, _≤_, _<_}
 use native.Mathlib.Nat.{add-zero, div-add-mod', div-le-self, div-mul-le-self, mod-lt, mod-mod, mul-div-cancel}
 use native.Mathlib.Omega.{arith}
+use lib.Bits.{bitAnd}
 use lib.Dec.{lit<}
 use lib.ListN.{set}
 use borrow.Author.Tests.{lt-ltb, le-ltb}
 use Rattle.base.specs.Code.{out}
 use Rattle.base.specs.Size.{Huge, rowsOf}
 use Rattle.base.proofs.Walks.{FirstAt, first-found, first-none}
-use Rattle.base.proofs.Rests.{wrap-next, wrap-first}
+use Rattle.base.proofs.Sizes.{mask-mod}
 use Rattle.shape.specs.Shape.{hugeOf, treeLog}
 use Rattle.shape.specs.Refuse.{Started}
 use Rattle.shape.specs.State.{Mem, mem, got, entryOf}
@@ -34,22 +35,9 @@ module _ (t x : ℕ) (pos : 0 < t) where
   pub entry-in : (j : ℕ) → entryAt t x j < x / t * t + t
   entry-in j = omega (arith, mod-lt (x % t + j) pos)
 
-  module _ (j y : ℕ) (at : y ≡ entryAt t x j) where
-    -- one visit more
-    next : x % t + (j + 1) ≡ x % t + j + 1
-    next = omega arith
-
-    -- behind an entry comes the next
-    pub entry-next : (y + 1 ≡ x / t * t + t → ⊥) → y + 1 ≡ entryAt t x (j + 1)
-    entry-next ne =
-        let w = wrap-next (x % t + j) ((x % t + j) % t) t (mod-lt (x % t + j) pos) refl (λ q. ne (omega arith)) in
-        rw next (omega arith)
-
-    -- and behind the tree's last the tree's first
-    pub entry-wrap : y + 1 ≡ x / t * t + t → x / t * t ≡ entryAt t x (j + 1)
-    entry-wrap e =
-        let w = wrap-first (x % t + j) ((x % t + j) % t) t (mod-lt (x % t + j) pos) refl (omega arith) in
-        rw next (omega arith)
+  -- the code finds it by a mask, T being a power of 2
+  pub entry-masked : (k : ℕ) {child first : ℕ} → 2 ^ k ≡ t → first ≡ x / t * t → child ≡ x % t → (j : ℕ) → first + bitAnd (child + j) (t - 1) ≡ entryAt t x j
+  entry-masked k {child} e first-is child-is j = rw (first-is, mask-mod (child + j) k (sym e), child-is, e)
 
 -- ---- what a get without a frame may touch
 

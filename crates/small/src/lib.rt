@@ -78,7 +78,7 @@ fn toggle(h: usize, rows: &mut [u64], frame: usize, order: usize, expected: bool
     )
 }
 
-// The first block of the start row's tree, from its huge frame on, wrapping.
+// The first block of the start row's tree, from its huge frame on, wrapping by a mask: no visit waits for the one before it.
 pub fn get(
     h: usize,
     n: usize,
@@ -94,7 +94,7 @@ pub fn get(
     let k = shape::tree_log(t);
     let mut x = shape::row_huge(h, row);
     let first = shape::tree_huge(k, shape::huge_tree(k, x));
-    let end = first + t;
+    let child = shape::huge_child(k, x);
     let mut j = 0;
     while j < t {
         let seen = look(h, n, rows, entries, row, order, x);
@@ -117,11 +117,8 @@ pub fn get(
                 };
             }
         }
-        x += 1;
-        if x == end {
-            x = first;
-        }
         j += 1;
+        x = first + ((child + j) & (t - 1));
     }
     Got {
         code: 7,

@@ -1,10 +1,10 @@
 -- `small::get` meets its contract. The loop's invariant: the memory is as lent, no visit before the one after j others ends the get, and x is its entry.
 -- The measure is what is left of the tree. Assumes nothing.
-use mathlib.Core.Path.{_≡_, refl, sym, ap, _∙_}
-use mathlib.Core.Logic.{⊎-elim}
-use Prim.Native.Nat.{ℕ, _+_, _-_, _*_, _/_, _^_, _≤_, _<_}
-use native.Mathlib.Nat.{div-mul-le-self}
+use mathlib.Core.Path.{_≡_, refl, sym, ap, ap₂, _∙_}
+use Prim.Native.Nat.{ℕ, _+_, _-_, _*_, _/_, _%_, _^_, _≤_, _<_}
+use native.Mathlib.Nat.{div-mul-le-self, mod-lt}
 use native.Mathlib.Omega.{arith}
+use lib.Bits.{bitAnd}
 use lib.ListN.{length, length-set}
 use lib.Pow.{pow-pos}
 use borrow.Author.Needs.{needs}
@@ -15,21 +15,21 @@ use Rattle.base.proofs.Sizes.{huge-high}
 use Rattle.base.proofs.Masks.{shl-one}
 use Rattle.shape.specs.Shape.{treeLog}
 use Rattle.shape.specs.State.{mem}
-use Rattle.shape.proofs.Laws.{tree-pos, tree-high}
+use Rattle.shape.proofs.Laws.{tree-pow, tree-pos, tree-high}
 use Rattle.shape.proofs.Lent.{present-rows}
 use Rattle.small.specs.declared.Visit.the-variants.{Damage}
 use Rattle.small.specs.Small.{visit, stops, entryAt}
 use Rattle.small.proofs.Visits.{Free, visit-free}
-use Rattle.small.proofs.Gets.{entry-start, entry-next, entry-wrap, start-huge, start-first, first-low, entry-lent, entry-low, stopsAt, get-ended, get-none, get-taken}
+use Rattle.small.proofs.Gets.{entry-start, entry-masked, start-huge, start-first, first-low, entry-lent, entry-low, stopsAt, get-ended, get-none, get-taken}
 use Rattle.small.proofs.get.Statement.{statement}
 use Rattle.small.proofs.get.Tie as tie
 
 abbrev Inv-loop : tie.InvT-loop
-Inv-loop h n t rows₀ entries₀ row order k x₀ first end j₀ rows entries x j =
+Inv-loop h n t rows₀ entries₀ row order k x₀ first child j₀ rows entries x j =
     (rows ≡ rows₀) × (entries ≡ entries₀) × (x ≡ entryAt t (row / rowsOf h) j) × FirstAt (stopsAt h n t (mem rows₀ entries₀) row order) t j
 
 abbrev μ-loop : tie.MeasureT-loop
-μ-loop h n t rows₀ entries₀ row order k x₀ first end j₀ rows entries x j = t - j
+μ-loop h n t rows₀ entries₀ row order k x₀ first child j₀ rows entries x j = t - j
 
 tree-log-requires : tie.Need-tree-log-requires Inv-loop μ-loop
 tree-log-requires c κs = c .before .before .pre .2 .sized .tree
@@ -54,24 +54,43 @@ tree-huge-requires c κs =
     let e = start-first (s .pre .0) (s .pre .2) (c .before .before .tree-log .ensures) (c .before .row-huge .ensures) (c .huge-tree .ensures) refl in
     (log-low (c .before .before), omega (arith, e, first-low (s .pre .0) (s .pre .2)))
 
+huge-child-requires : tie.Need-huge-child-requires Inv-loop μ-loop
+huge-child-requires c κs = log-low (c .before .before .before)
+
 -- the function's entry, from where its loop begins
-abbrev entry : tie.After-tree-huge Inv-loop μ-loop → tie.Start Inv-loop μ-loop
-entry c = c .before .before .before .before .before .before
+abbrev entry : tie.After-huge-child Inv-loop μ-loop → tie.Start Inv-loop μ-loop
+entry c = c .before .before .before .before .before .before .before
 
--- the first entry of the start row's tree
-first-is : (c : tie.After-tree-huge Inv-loop μ-loop) → let a = entry c .args in c .tree-huge .result ≡ a .row / rowsOf (a .h) / a .t * a .t
-first-is c =
+-- T as a power of 2
+log-is : (c : tie.After-huge-child Inv-loop μ-loop) → 2 ^ c .before .before .before .before .tree-log .result ≡ entry c .args .t
+log-is c = ap (λ (k : ℕ). 2 ^ k) (c .before .before .before .before .tree-log .ensures) ∙ tree-pow (entry c .args .t) (entry c .pre .2 .sized .tree)
+
+-- the entry that is visited after j others, as the code makes it
+masked : (c : tie.After-huge-child Inv-loop μ-loop) (j : ℕ) → let a = entry c .args in
+    c .before .tree-huge .result + bitAnd (c .huge-child .result + j) (a .t - 1) ≡ entryAt (a .t) (a .row / rowsOf (a .h)) j
+masked c =
     let s = entry c in
-    start-first (s .pre .0) (s .pre .2) (c .before .before .before .tree-log .ensures) (c .before .before .row-huge .ensures) (c .before .huge-tree .ensures) (c .tree-huge .ensures)
+    let k = c .before .before .before in
+    let x = k .row-huge .ensures ∙ start-huge (s .pre .0) (s .pre .2) in
+    let first = start-first (s .pre .0) (s .pre .2) (k .before .tree-log .ensures) (k .row-huge .ensures) (c .before .before .huge-tree .ensures) (c .before .tree-huge .ensures) in
+    entry-masked (s .args .t) (s .args .row / rowsOf (s .args .h)) (tree-pos (s .args .t) (s .pre .2 .sized .tree)) _ (log-is c) first (child-is c x)
+  where
+    child-is : (c : tie.After-huge-child Inv-loop μ-loop) → let a = entry c .args in c .before .before .before .row-huge .result ≡ a .row / rowsOf (a .h)
+        → c .huge-child .result ≡ a .row / rowsOf (a .h) % a .t
+    child-is c e = c .huge-child .ensures ∙ ap₂ (λ (x t : ℕ). x % t) e (log-is c)
 
-add-end : tie.Need-add-end Inv-loop μ-loop
-add-end c = let s = entry c in omega (arith, first-is c, first-low (s .pre .0) (s .pre .2), tree-high (s .args .t) (s .pre .2 .sized .tree))
+-- the place of its huge frame in the tree is below T
+child-low : (c : tie.After-huge-child Inv-loop μ-loop) → c .huge-child .result < 512
+child-low c =
+    let s = entry c in
+    let k = c .before .before .before .before .tree-log .result in
+    omega (arith, c .huge-child .ensures, mod-lt (c .before .before .before .row-huge .result) (pow-pos k), log-is c, tree-high (s .args .t) (s .pre .2 .sized .tree))
 
 loop-holds : tie.Need-loop-holds Inv-loop μ-loop
 loop-holds c =
     let s = entry c in
     let t = tree-pos (s .args .t) (s .pre .2 .sized .tree) in
-    (refl, refl, c .before .before .row-huge .ensures ∙ start-huge (s .pre .0) (s .pre .2) ∙ entry-start (s .args .t) (s .args .row / rowsOf (s .args .h)) t, first-start _ _)
+    (refl, refl, c .before .before .before .row-huge .ensures ∙ start-huge (s .pre .0) (s .pre .2) ∙ entry-start (s .args .t) (s .args .row / rowsOf (s .args .h)) t, first-start _ _)
 
 -- entry x is lent
 entry-read : (a : tie.At-loop Inv-loop μ-loop) → a .loop .x < length (a .loop .entries)
@@ -192,32 +211,33 @@ returns-2 c =
     (get-taken _ _ _ _ _ _ _ _ (i .3) (k .before .before .before .before .before .loop-test .taken) _ (i .2) (sym (k .seen .given .1) ∙ seen-is (k .before .before)) (found k)
     (rw (i .0) at (c .before .before .before .toggle .ensures)) (shl-one 16 (s .args .order) (order-low s)))
 
-add-x : tie.Need-add-x Inv-loop μ-loop
-add-x c = omega (arith, entry-small (c .before .before .before .before .before .before))
-
 add-j : tie.Need-add-j Inv-loop μ-loop
-add-j c = omega (arith, turn-low (c .before .before .before .before .before .before))
+add-j c = omega (arith, turn-low (c .before .before .before .before .before))
+
+add-x : tie.Need-add-x Inv-loop μ-loop
+add-x c = omega (arith, turn-low (c .before .before .before .before .before), child-low (c .before .before .before .before .before .before .before))
+
+sub-x : tie.Need-sub-x Inv-loop μ-loop
+sub-x c = let s = entry (c .before .before .before .before .before .before .before) in tree-pos (s .args .t) (s .pre .2 .sized .tree)
+
+add-x-2 : tie.Need-add-x-2 Inv-loop μ-loop
+add-x-2 c =
+    let a = c .before .before .before .before .before .before in
+    let s = entry (a .before) in
+    omega (arith, masked (a .before) (a .loop .j + 1), entry-low (s .pre .0) (s .pre .2) (a .loop .j + 1))
 
 loop-less : tie.Need-loop-less Inv-loop μ-loop
 loop-less c = search needs
 
 loop-again : tie.Need-loop-again Inv-loop μ-loop
 loop-again c =
-    let k = c .before .before .before in
+    let k = c .before .before in
     let a = k .before .before .before .before in
-    let s = entry (a .before) in
-    let i = a .loop .inv in
-    let t = s .args .t in
-    let x = s .args .row / rowsOf (s .args .h) in
-    let pos = tree-pos t (s .pre .2 .sized .tree) in
-    let e = first-is (a .before) in (
+    let i = a .loop .inv in (
       i .0,
       i .1,
-      ⊎-elim
-          (λ w. w .1 ∙ e ∙ entry-wrap t x pos (a .loop .j) (a .loop .x) (i .2) (omega (arith, w .0 .taken)))
-          (λ w. w .1 ∙ entry-next t x pos (a .loop .j) (a .loop .x) (i .2) (λ q. omega (arith, w .0 .left)))
-          (c .if1 .came),
-      first-more _ _ _ (i .3) (k .before .before .before .loop-test .taken) (ap stops (sym (rw (i .2) at (seen-is k)) ∙ c .before .enum-told .given .1)),
+      masked (a .before) (a .loop .j + 1),
+      first-more _ _ _ (i .3) (k .before .before .before .loop-test .taken) (ap stops (sym (rw (i .2) at (seen-is k)) ∙ c .enum-told .given .1)),
     )
 
 same-length-5 : tie.Need-same-length-5 Inv-loop μ-loop
@@ -239,7 +259,7 @@ get-spec =
     row-huge-requires
     huge-tree-requires
     tree-huge-requires
-    add-end
+    huge-child-requires
     loop-holds
     look-requires
     enum-told
@@ -261,8 +281,10 @@ get-spec =
     same-length-3
     same-length-4
     returns-2
-    add-x
     add-j
+    add-x
+    sub-x
+    add-x-2
     loop-less
     loop-again
     same-length-5
