@@ -5,13 +5,7 @@
  * A batch is a number of words of 64 bits, then those words: items of a kind and its words. All of the
  * batch is read before anything is answered, so that no side waits for the other. */
 
-typedef __UINT64_TYPE__ word;
-typedef __UINT32_TYPE__ number;
-typedef __SIZE_TYPE__ size;
-
-long read(int file, void *to, size length);
-long write(int file, const void *from, size length);
-void *memcpy(void *to, const void *from, size length);
+#include "pipe.h"
 
 number rb_first_zeros_aligned(word v, size order, size *place, word *row);
 number rb_bitfield_set(word *rows, size rows_len, size start, size end, number value);
@@ -27,22 +21,7 @@ enum { SEARCH, STATE, SET, TOGGLE, IS_ZERO, FIRST_ZEROS, SET_FIRST_ZEROS, FILL, 
 /* Up to sixteen lent rows, and one word on either side that no call may touch. */
 enum { ROOM = 18 };
 
-/* A lent number starts as this, so that one which is not written is seen. */
-#define UNWRITTEN 0x5a5a5a5a5a5a5a5aull
-
 static word request[1 << 20], reply[1 << 20];
-
-static int transfer(int writing, void *at, size length)
-{
-    while (length > 0) {
-        long done = writing ? write(1, at, length) : read(0, at, length);
-        if (done <= 0)
-            return 0;
-        at = (char *)at + done;
-        length -= (size)done;
-    }
-    return 1;
-}
 
 /* One call on a copy of the state: code, lent number and all of the room go to out. */
 static void eight_rows(const word *item, const word *state, word *out)

@@ -6,14 +6,9 @@
  * batch is read before anything is answered, so that no side waits for the other; the answers go back in
  * the same form. The room stays from batch to batch. */
 
-typedef __UINT64_TYPE__ word;
-typedef __UINT32_TYPE__ number;
-typedef __UINT16_TYPE__ entry;
-typedef __SIZE_TYPE__ size;
+#include "../pipe.h"
 
-long read(int file, void *to, size length);
-long write(int file, const void *from, size length);
-void *memcpy(void *to, const void *from, size length);
+typedef __UINT16_TYPE__ entry;
 
 number rb_free_all(size n, size t, word *rows, size rows_len, entry *entries, size entries_len);
 number rb_reserve_all(size n, size t, word *rows, size rows_len, entry *entries, size entries_len);
@@ -27,9 +22,6 @@ number rb_is_free(size n, size t, const word *rows, size rows_len, const entry *
 
 enum { STATE, FREE_ALL, RESERVE_ALL, GET, GET_AT, PUT, IS_FREE };
 
-/* A lent number starts as this, so that one which is not written is seen. */
-#define UNWRITTEN 0x5a5a5a5a5a5a5a5aull
-
 enum { BATCH = 1 << 20, ROOM = 1 << 15 };
 static word request[BATCH], reply[1 + BATCH];
 
@@ -37,18 +29,6 @@ static word request[BATCH], reply[1 + BATCH];
  * is lent, and some after it, which no call may touch. */
 static word room[ROOM], before[ROOM];
 static word words, row_words;
-
-static int transfer(int writing, void *at, size length)
-{
-    while (length > 0) {
-        long done = writing ? write(1, at, length) : read(0, at, length);
-        if (done <= 0)
-            return 0;
-        at = (char *)at + done;
-        length -= (size)done;
-    }
-    return 1;
-}
 
 /* One call on the room: code and lent numbers go to out. */
 static void call(const word *item, word *out)

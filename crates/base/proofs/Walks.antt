@@ -7,7 +7,8 @@ use native.Mathlib.Decide.{decLe}
 use Prim.Native.Nat.{ℕ, zero, suc, _+_, _-_, _≤_, _<_}
 use native.Mathlib.Omega.{arith}
 use native.Mathlib.Numerals.{add-one}
-use lib.ListN.{length, set, length-set}
+use lib.ListN.{length, getD, set, length-set}
+use lib.Seq.{getD-set-other}
 use native.Mathlib.Nat.{add-zero, zero-add, suc-add, add-suc}
 use Rattle.base.specs.Walk.{pick, first, all, count, written}
 
@@ -241,3 +242,10 @@ pub length-written : (f : ℕ → ℕ) (l : List ℕ) (at n : ℕ) → length (w
 unfolding written
 length-written f l at zero = refl
 length-written f l at (suc n) = length-set (written f l at n) (at + n) (f (at + n)) ∙ length-written f l at n
+
+-- an element behind a run that is written stays
+pub written-beyond : (f : ℕ → ℕ) (l : List ℕ) (at n i : ℕ) → at + n ≤ i → getD (written f l at n) i 0 ≡ getD l i 0
+unfolding written
+written-beyond f l at zero i h = refl
+written-beyond f l at (suc n) i h =
+    getD-set-other (written f l at n) (at + n) i (f (at + n)) 0 (λ e. omega arith) ∙ written-beyond f l at n i (omega arith)

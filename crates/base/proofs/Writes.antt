@@ -82,3 +82,13 @@ with-rows b (v ∷ rows) (suc i) k fits h =
     let a : suc i * 64 - 64 ≡ i * 64 = omega arith in
     let e : (suc i + k) * 64 - 64 ≡ (i + k) * 64 = omega arith in
     rw (lo, hi, a, e, overlay-none b v 64, suc-add) (ap (λ (l : List ℕ). v ∷ l) (with-rows b rows i k (λ j. fits (suc j)) (omega arith)))
+
+-- a row behind all that is written stays
+pub with-beyond : (b : Bool) (rows : List ℕ) (a e i : ℕ) → a ≤ e → e ≤ i * 64 → getD (withBits b rows a e) i 0 ≡ getD rows i 0
+unfolding withBits
+with-beyond b [] a e i l h = refl
+with-beyond b (v ∷ rows) a e zero l h =
+    let lo : min a 64 ≡ 0 = omega arith in
+    let hi : min e 64 ≡ 0 = omega arith in
+    rw (lo, hi) (overlay-none b v 0)
+with-beyond b (v ∷ rows) a e (suc i) l h = with-beyond b rows (a - 64) (e - 64) i (omega arith) (omega arith)
