@@ -1,4 +1,6 @@
 pub mod Walks
+pub mod Sums
+pub mod Written
 pub mod Codes
 pub mod Sizes
 pub mod Rests

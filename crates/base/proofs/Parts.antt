@@ -1,13 +1,15 @@
 -- The rows of one huge frame as a part of all rows: what is said of the part's bits is said of the whole's. Assumes nothing.
 use mathlib.Core.Path.{_≡_, refl, sym, ap, ap₂, _∙_}
-use mathlib.Core.Bool.{Bool}
+use mathlib.Core.Bool.{Bool, false}
 use mathlib.Core.List.{List, [], _∷_, _++_}
 use Prim.Native.Nat.{ℕ, suc, _+_, _-_, _*_, _/_, _%_, _≤_, _<_, min}
+use native.Mathlib.Nat.{add-zero, zero-add}
 use native.Mathlib.Omega.{arith}
 use lib.ListN.{length, take, drop, take-append-drop, length-drop}
 use lib.Seq.{getD-take, getD-drop, length-take-le}
+use Rattle.base.specs.Walk.{count}
 use Rattle.base.specs.Bits.{bitIs, blockIs, overlay, withBits}
-use Rattle.base.proofs.Walks.{all-same}
+use Rattle.base.proofs.Walks.{all-same, count-same, count-shift}
 use Rattle.base.proofs.Masks.{overlay-none}
 use Rattle.base.proofs.Writes.{with-none}
 
@@ -19,6 +21,12 @@ bit-part b rows a k f h =
     let r : (a * 64 + f) / 64 ≡ a + f / 64 = omega arith in
     let q : (a * 64 + f) % 64 ≡ f % 64 = omega arith in
     rw (r, q, getD-take k (drop a rows) (f / 64) 0 low, getD-drop a rows (f / 64) 0)
+
+-- the clear bits of k rows from row a on, counted in the part that holds them
+pub zeros-part : (rs : List ℕ) (a k : ℕ) → count (bitIs false (take k (drop a rs))) (k * 64) 0 ≡ count (bitIs false rs) (k * 64) (a * 64)
+zeros-part rs a k =
+    count-same (bitIs false (take k (drop a rs))) (λ f. bitIs false rs (a * 64 + f)) (k * 64) 0 (λ f _ l. bit-part false rs a k f (rw zero-add at l))
+    ∙ count-shift (bitIs false rs) (a * 64) (k * 64) 0 ∙ ap (count (bitIs false rs) (k * 64)) (add-zero (a * 64))
 
 -- so a block of the part is one of the whole
 pub block-part : (b : Bool) (rows : List ℕ) (a k p s : ℕ) → p + s ≤ k * 64 → blockIs b (take k (drop a rows)) p s ≡ blockIs b rows (a * 64 + p) s

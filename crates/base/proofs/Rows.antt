@@ -127,6 +127,17 @@ module _ (b : Bool) (rows : List ℕ) where
         one true false = refl
         one false t = refl
 
+-- a run of bits in two parts
+pub block-parts : (b : Bool) (rows : List ℕ) (p s u : ℕ) → blockIs b rows p (s + u) ≡ pick (blockIs b rows p s) (blockIs b rows (p + s) u) false
+unfolding blockIs
+block-parts b rows p s u =
+    all-parts (λ j. bitIs b rows (p + j)) s u 0
+    ∙ ap (λ (t : Bool). pick (all (λ j. bitIs b rows (p + j)) s 0) t false)
+    (all-shift (bitIs b rows) p u (0 + s) ∙ ap (all (bitIs b rows) u) (ends p s) ∙ sym (all-shift (bitIs b rows) (p + s) u 0))
+  where
+    ends : (p s : ℕ) → p + (0 + s) ≡ p + s + 0
+    ends p s = omega arith
+
 -- ---- clear bits counted
 
 -- the set and the clear bits of a number of n bits are n

@@ -1,16 +1,13 @@
 -- Laws of the walks: what a loop's turn does, and what the answer says of each index. Assumes nothing.
 use mathlib.Core.Path.{_≡_, refl, sym, ap, _∙_}
 use mathlib.Core.Bool.{Bool, true, false}
-use mathlib.Core.List.{List}
 use mathlib.Core.Logic.{_⊎_, inl, inr, ⊎-elim}
 use native.Mathlib.Decide.{decLe}
 use Prim.Native.Nat.{ℕ, zero, suc, _+_, _-_, _≤_, _<_}
 use native.Mathlib.Omega.{arith}
 use native.Mathlib.Numerals.{add-one}
-use lib.ListN.{length, getD, set, length-set}
-use lib.Seq.{getD-set-other}
 use native.Mathlib.Nat.{add-zero, zero-add, suc-add, add-suc}
-use Rattle.base.specs.Walk.{pick, first, all, count, written}
+use Rattle.base.specs.Walk.{pick, first, all, count}
 
 eq-or-lt : (i j : ℕ) → i ≤ j → (j ≡ i) ⊎ (suc i ≤ j)
 eq-or-lt i j l = elim (decLe (suc i) j) [ yes q ↦ inr q | no q ↦ inl (omega arith) ]
@@ -66,6 +63,23 @@ module _ (p : ℕ → Bool) (n : ℕ) where
   unfolding all
   all-end i a h = rw (sub-end n i h, all) at (a .1)
 
+-- the same of a walk that begins anywhere, also past its end
+module _ (p : ℕ → Bool) (n at : ℕ) where
+  abbrev pub FirstFrom : ℕ → Type 0
+  FirstFrom i = first p (n - i) i ≡ first p (n - at) at
+
+  pub from-found : (i : ℕ) → FirstFrom i → i < n → p i ≡ true → i ≡ first p (n - at) at
+  unfolding first
+  from-found i a h e = rw (sub-step n i h, first, e) at a
+
+  pub from-more : (i : ℕ) → FirstFrom i → i < n → p i ≡ false → FirstFrom (i + 1)
+  unfolding first
+  from-more i a h e = ap (first p (n - (i + 1))) (add-one i) ∙ rw (sub-step n i h, first, e) at a
+
+  pub from-none : (i : ℕ) → FirstFrom i → n ≤ i → i ≡ first p (n - at) at
+  unfolding first
+  from-none i a h = rw (sub-end n i h, first) at a
+
 -- what an answer says of each index
 module _ (p : ℕ → Bool) where
   pub first-hit : (n i : ℕ) → first p n i < i + n → p (first p n i) ≡ true
@@ -85,6 +99,15 @@ module _ (p : ℕ → Bool) where
       go : (b : Bool) → first p n (suc i) ≤ suc i + n → pick b i (first p n (suc i)) ≤ i + suc n
       go true f = omega arith
       go false f = omega arith
+
+  pub first-from : (n i : ℕ) → i ≤ first p n i
+  unfolding first
+  first-from zero i = omega arith
+  first-from (suc n) i = go (p i) (first-from n (suc i))
+    where
+      go : (b : Bool) → suc i ≤ first p n (suc i) → i ≤ pick b i (first p n (suc i))
+      go true l = omega arith
+      go false l = omega arith
 
   pub all-each : (n i : ℕ) → all p n i ≡ true → (j : ℕ) → i ≤ j → j < i + n → p j ≡ true
   unfolding all
@@ -233,19 +256,11 @@ unfolding first
 first-never p zero i f = omega arith
 first-never p (suc n) i f = rw (first, f i (omega arith) (omega arith)) (first-never p n (suc i) (λ k b c. f k (omega arith) (omega arith)) ∙ omega arith)
 
--- one more of a run that is written
-pub written-more : (f : ℕ → ℕ) (l : List ℕ) (at n : ℕ) → set (written f l at n) (at + n) (f (at + n)) ≡ written f l at (n + 1)
-unfolding written
-written-more f l at n = rw add-one
-
-pub length-written : (f : ℕ → ℕ) (l : List ℕ) (at n : ℕ) → length (written f l at n) ≡ length l
-unfolding written
-length-written f l at zero = refl
-length-written f l at (suc n) = length-set (written f l at n) (at + n) (f (at + n)) ∙ length-written f l at n
-
--- an element behind a run that is written stays
-pub written-beyond : (f : ℕ → ℕ) (l : List ℕ) (at n i : ℕ) → at + n ≤ i → getD (written f l at n) i 0 ≡ getD l i 0
-unfolding written
-written-beyond f l at zero i h = refl
-written-beyond f l at (suc n) i h =
-    getD-set-other (written f l at n) (at + n) i (f (at + n)) 0 (λ e. omega arith) ∙ written-beyond f l at n i (omega arith)
+-- one index more
+pub count-more : (p : ℕ → Bool) (n i : ℕ) → count p (n + 1) i ≡ count p n i + pick (p (i + n)) 1 0
+unfolding count
+count-more p n i = count-parts p n 1 i ∙ ap (λ (k : ℕ). count p n i + k) (one (p (i + n)))
+  where
+    one : (b : Bool) → pick b (suc (count p zero (suc (i + n)))) (count p zero (suc (i + n))) ≡ pick b 1 0
+    one true = refl
+    one false = refl

@@ -19,3 +19,7 @@ pub record Out (A S : Type 0) : Type 0 where
 
 abbrev pub out : {A S : Type 0} → A → S → Out A S
 out a s = record { answer = a; left = s }
+
+-- "a refusal writes nothing": refused with code c and the memory as it was, or what is done
+abbrev pub unrefused : {A S : Type 0} → ℕ → A → S → Out A S → Out A S
+unrefused c refusal s done = pick (eqb c 0) done (out refusal s)

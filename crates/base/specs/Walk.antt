@@ -28,3 +28,8 @@ count p (suc n) i = pick (p i) (suc (count p n (suc i))) (count p n (suc i))
 unfoldable pub written : (ℕ → ℕ) → List ℕ → ℕ → ℕ → List ℕ
 written f l at zero = l
 written f l at (suc n) = set (written f l at n) (at + n) (f (at + n))
+
+-- the sum of f over the n indices from i
+unfoldable pub sum : (ℕ → ℕ) → ℕ → ℕ → ℕ
+sum f zero i = 0
+sum f (suc n) i = sum f n i + f (i + n)

@@ -14,7 +14,7 @@ use Rattle.base.specs.Code.{Out, out, unless, orElse}
 use Rattle.base.specs.Size.{Huge, rowsOf}
 use Rattle.base.specs.Bits.{solid, bitIs, blockIs, withBits}
 use Rattle.base.proofs.Walks.{first-hit, first-before}
-use Rattle.base.proofs.Codes.{none-of, holds}
+use Rattle.base.proofs.Codes.{none-of, holds, both}
 use Rattle.base.proofs.Sizes.{huge-high, rows-frames}
 use Rattle.base.proofs.Writes.{with-rows}
 use Rattle.base.proofs.Frames.{Wrote, wrote, block-each, block-of}
@@ -111,10 +111,6 @@ set-done {h} H rows a e b z =
     let r = eqb-true (length rows) (rowsOf h) (holds _ 2 (c .0)) in
     let t = both (leb a e) (leb e (2 ^ h)) (holds _ 4 (c .1)) in
     rw (d .1) (wrote b rows a e (leb-true a e (t .0)) (2 ^ h) (leb-true e (2 ^ h) (t .1)) (rw (r, rows-frames H) (omega arith)))
-  where
-    both : (x y : Bool) → (x && y) ≡ true → (x ≡ true) × (y ≡ true)
-    both true y e = (refl, e)
-    both false y e = absurd (let z : _≡_ {A = ℕ} 0 1 = cc in omega arith)
 
 -- a fill that is done wrote every bit
 pub fill-done : {h : ℕ} → Huge h → (rows : List ℕ) (b : Bool) → fill h rows b .answer ≡ 0 → Wrote b rows 0 (2 ^ h) (2 ^ h) (fill h rows b .left)

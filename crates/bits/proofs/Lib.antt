@@ -1,2 +1,3 @@
 pub mod Blocks
 pub mod Writing
+pub mod Tails

@@ -1,6 +1,6 @@
 // Runs of bits over any lent rows: are they alike, store them, count the clear ones. The bitfield and the lower level share these.
 ghost use mathlib.Core.Path.{_≡_};
-ghost use mathlib.Core.Bool.{false};
+ghost use mathlib.Core.Bool.{true, false};
 ghost use Prim.Native.Nat.{_+_, _-_, _*_, _^_, _<_, _≤_, min};
 ghost use lib.Dec.{eqb};
 ghost use lib.ListN.{length, getD, replicate};
@@ -78,6 +78,20 @@ pub fn block_is(rows: &[u64], place: usize, order: usize, b: bool) -> bool
     }
     let e = i + base::size(order - 6);
     rows_are(&rows[i..e], solid_row(b))
+}
+
+// Whether the bits from place on are all set.
+pub fn rest_is_set(rows: &[u64], place: usize) -> bool
+    requires { ⌜ (place < length (now rows) * 64) × (length (now rows) * 64 < 2 ^ 64) ⌝ }
+    ensures { λ r. ⌜ r ≡ blockIs true (now (rows .entry)) place (length (now (rows .entry)) * 64 - place) ⌝ }
+{
+    let i = place / 64;
+    let at = place % 64;
+    if rows[i] >> at != u64::MAX >> at {
+        return false;
+    }
+    let next = i + 1;
+    rows_are(&rows[next..], u64::MAX)
 }
 
 // A row with its bits from lo up to hi all set, or all clear.

@@ -1,1 +1,2 @@
 pub mod Flag
+pub mod Run

@@ -4,10 +4,14 @@ ghost use mathlib.Core.Path.{_≡_};
 ghost use Rattle.base.specs.Code.{out};
 ghost use Rattle.base.specs.Size.{hugeOrder};
 ghost use Rattle.row.specs.Row.{numbers, firstZeros};
-ghost use Rattle.shape.specs.State.{mem, got};
+ghost use Rattle.shape.specs.State.{mem, got, counted};
 ghost use Rattle.bitfield.specs.Calls as spec;
 ghost use Rattle.lower.specs.Calls as lower;
+ghost use Rattle.audit.specs.Audit.{fault};
+ghost use Rattle.recover.specs.Recover.{recovered};
+ghost use Rattle.staff.specs.Calls as staff;
 ghost use Rattle.capi.specs.Flag.{says, flagged, freeFlagged};
+ghost use Rattle.capi.specs.Run.{run, treeRun};
 use row::Found;
 
 // The lowest clear block of a row, and the row with the block set.
@@ -219,4 +223,125 @@ pub extern "C" fn rb_is_free(
     }
     *yes = 0;
     answer.code
+}
+
+// Free frames, huge frames that are free whole, and trees that are.
+#[no_mangle]
+pub extern "C" fn rb_stats(
+    n: usize,
+    t: usize,
+    rows: &[u64],
+    entries: &[u16],
+    free_frames: &mut usize,
+    free_huge: &mut usize,
+    free_trees: &mut usize,
+) -> u32
+    ensures { λ r. ⌜ counted r (now («free_frames» .exit)) (now («free_huge» .exit)) (now («free_trees» .exit)) ≡ lower.stats hugeOrder n t (mem (now (rows .entry)) (now (entries .entry))) ⌝ }
+{
+    let stats = lower::stats(n, t, rows, entries);
+    *free_frames = stats.free_frames;
+    *free_huge = stats.free_huge;
+    *free_trees = stats.free_trees;
+    stats.code
+}
+
+// The same at a frame, its huge frame or its tree, as the order says.
+#[no_mangle]
+pub extern "C" fn rb_stats_at(
+    n: usize,
+    t: usize,
+    rows: &[u64],
+    entries: &[u16],
+    frame: usize,
+    order: usize,
+    free_frames: &mut usize,
+    free_huge: &mut usize,
+    free_trees: &mut usize,
+) -> u32
+    ensures { λ r. ⌜ counted r (now («free_frames» .exit)) (now («free_huge» .exit)) (now («free_trees» .exit)) ≡ lower.statsAt hugeOrder n t (mem (now (rows .entry)) (now (entries .entry))) frame order ⌝ }
+{
+    let stats = lower::stats_at(n, t, rows, entries, frame, order);
+    *free_frames = stats.free_frames;
+    *free_huge = stats.free_huge;
+    *free_trees = stats.free_trees;
+    stats.code
+}
+
+// The first faulty huge frame, and why it is.
+#[no_mangle]
+pub extern "C" fn rb_audit(
+    n: usize,
+    t: usize,
+    rows: &[u64],
+    entries: &[u16],
+    huge: &mut usize,
+    reason: &mut u32,
+) -> u32
+    ensures { λ r. ⌜ fault r (now (huge .exit)) (now (reason .exit)) ≡ staff.audit hugeOrder n t (mem (now (rows .entry)) (now (entries .entry))) ⌝ }
+{
+    let fault = staff::audit(n, t, rows, entries);
+    *huge = fault.huge;
+    *reason = fault.reason;
+    fault.code
+}
+
+// Puts counts right by the bits, and clears the bits under a mark.
+#[no_mangle]
+pub extern "C" fn rb_recover(
+    n: usize,
+    t: usize,
+    rows: &mut [u64],
+    entries: &mut [u16],
+    entries_changed: &mut usize,
+    bitfields_changed: &mut usize,
+) -> u32
+    ensures { λ r. ⌜ out (recovered r (now («entries_changed» .exit)) (now («bitfields_changed» .exit))) (mem (now (rows .exit)) (now (entries .exit))) ≡ staff.recover hugeOrder n t (mem (now (rows .entry)) (now (entries .entry))) ⌝ }
+{
+    let recovered = staff::recover(n, t, rows, entries);
+    *entries_changed = recovered.entries;
+    *bitfields_changed = recovered.bitfields;
+    recovered.code
+}
+
+// The room of a frame's tree: nineteen counts.
+#[no_mangle]
+pub extern "C" fn rb_room(
+    n: usize,
+    t: usize,
+    rows: &[u64],
+    entries: &[u16],
+    frame: usize,
+    counts: &mut [usize; 19],
+) -> u32
+    ensures { λ r. ⌜ out r (now (counts .exit)) ≡ staff.room hugeOrder n t (mem (now (rows .entry)) (now (entries .entry))) frame ⌝ }
+{
+    let room = staff::room(n, t, rows, entries, frame);
+    let filled = room.counts;
+    *counts = filled;
+    room.code
+}
+
+// The entries of a frame's tree: where they begin among those lent, and how many they are.
+#[no_mangle]
+pub extern "C" fn rb_tree_run(
+    n: usize,
+    t: usize,
+    rows: &[u64],
+    entries: &[u16],
+    frame: usize,
+    offset: &mut usize,
+    length: &mut usize,
+) -> u32
+    ensures { λ r. ⌜ run r (now (offset .exit)) (now (length .exit)) ≡ treeRun hugeOrder n t (mem (now (rows .entry)) (now (entries .entry))) frame ⌝ }
+{
+    let code = staff::tree_run_code(n, t, rows, entries, frame);
+    if code != 0 {
+        *offset = 0;
+        *length = 0;
+        return code;
+    }
+    let k = shape::tree_log(t);
+    *offset = shape::tree_huge(k, shape::frame_tree(base::HUGE_ORDER, k, frame));
+    *length = t;
+    0
 }

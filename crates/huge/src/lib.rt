@@ -10,7 +10,7 @@ ghost use Rattle.huge.specs.Huge as spec;
 use shape::Got;
 
 // Whether the g entries from at on are all v.
-fn entries_are(entries: &[u16], v: u16, at: usize, g: usize) -> bool
+pub fn entries_are(entries: &[u16], v: u16, at: usize, g: usize) -> bool
     requires { ⌜ at + g ≤ length (now entries) ⌝ }
     ensures { λ r. ⌜ r ≡ spec.entriesAre v (now (entries .entry)) at g ⌝ }
 {

@@ -14,13 +14,14 @@ use Rattle.base.specs.Walk.{written}
 use Rattle.base.specs.Code.{Out}
 use Rattle.base.specs.Size.{Huge, rowsOf}
 use Rattle.base.specs.Bits.{blockIs, withBits}
-use Rattle.base.proofs.Walks.{pick-case, written-beyond}
+use Rattle.base.proofs.Walks.{pick-case}
+use Rattle.base.proofs.Written.{written-beyond}
 use Rattle.base.proofs.Sizes.{rows-frames}
 use Rattle.base.proofs.Writes.{with-beyond}
 use Rattle.shape.specs.Shape.{hugeOf, ceil, mark, rowsNeeded, entriesNeeded}
 use Rattle.shape.specs.Refuse.{Sized, Blocked}
 use Rattle.shape.specs.declared.Got.{Got}
-use Rattle.shape.specs.State.{Mem, mem, entryOf, freeOf}
+use Rattle.shape.specs.State.{Mem, mem, sizes, block, start, entryOf, freeOf}
 use Rattle.shape.proofs.Laws.{ceil-covers, entries-cover, tree-pos}
 use Rattle.shape.proofs.Lent.{sized, blocked, started, present-rows, block-entries}
 use Rattle.huge.specs.Huge.{groupOf, entriesAre, groupAt, groupsPassed, takeGroup, getHuge, getHugeAt, putHuge}
@@ -179,19 +180,19 @@ module _ {h : ℕ} (H : Huge h) (n t : ℕ) (m : Mem) where
   pub free-all-beyond : Kept h n t m (spec.freeAll h n t m .left)
   unfolding spec.freeAll starts.freeAll
   free-all-beyond =
-      pick-case (λ (x : Out ℕ Mem). Kept h n t m (x .left)) (eqb (spec.sizes h n t m) 0)
+      pick-case (λ (x : Out ℕ Mem). Kept h n t m (x .left)) (eqb (sizes h n t m) 0)
       (λ e. starts-kept H (needed (sized h n t _ _ (eqb-true _ 0 e))) m n (freeEntry h n) (omega arith)) (λ _. same h n t m)
 
   pub reserve-all-beyond : Kept h n t m (spec.reserveAll h n t m .left)
   unfolding spec.reserveAll starts.reserveAll
   reserve-all-beyond =
-      pick-case (λ (x : Out ℕ Mem). Kept h n t m (x .left)) (eqb (spec.sizes h n t m) 0)
+      pick-case (λ (x : Out ℕ Mem). Kept h n t m (x .left)) (eqb (sizes h n t m) 0)
       (λ e. starts-kept H (needed (sized h n t _ _ (eqb-true _ 0 e))) m (n / 2 ^ h * 2 ^ h) (heldEntry h n) (omega (arith, div-add-mod' n (2 ^ h)))) (λ _. same h n t m)
 
   pub get-beyond : (row o : ℕ) → Kept h n t m (spec.get h n t m row o .left)
   unfolding spec.get
   get-beyond row o =
-      pick-case (λ (x : Out Got Mem). Kept h n t m (x .left)) (eqb (spec.start h n t m row o) 0)
+      pick-case (λ (x : Out Got Mem). Kept h n t m (x .left)) (eqb (start h n t m row o) 0)
       (λ e. let s = needed (started h n t _ _ row o (eqb-true _ 0 e) .sized) in
       pick-case (λ (x : Out Got Mem). Kept h n t m (x .left)) (ltb o h) (λ _. get-small-kept H s m row o) (λ _. get-huge-kept H s m row o))
       (λ _. same h n t m)
@@ -203,7 +204,7 @@ module _ {h : ℕ} (H : Huge h) (n t : ℕ) (m : Mem) where
   pub get-at-beyond : (f o : ℕ) → Kept h n t m (spec.getAt h n t m f o .left)
   unfolding spec.getAt
   get-at-beyond f o =
-      pick-case (λ (x : Out Got Mem). Kept h n t m (x .left)) (eqb (spec.block h n t m f o) 0)
+      pick-case (λ (x : Out Got Mem). Kept h n t m (x .left)) (eqb (block h n t m f o) 0)
       (λ e. let b = blocked h n t _ _ f o (eqb-true _ 0 e) in
       pick-case (λ (x : Out Got Mem). Kept h n t m (x .left)) (ltb o h) (λ _. get-small-at-kept H (needed (b .sized)) m f o (b .ends))
       (λ l. get-huge-at-kept H (needed (b .sized)) m f o (group-low f o b (ltb-false o h l))))
@@ -212,7 +213,7 @@ module _ {h : ℕ} (H : Huge h) (n t : ℕ) (m : Mem) where
   pub put-beyond : (f o : ℕ) → Kept h n t m (spec.put h n t m f o .left)
   unfolding spec.put
   put-beyond f o =
-      pick-case (λ (x : Out ℕ Mem). Kept h n t m (x .left)) (eqb (spec.block h n t m f o) 0)
+      pick-case (λ (x : Out ℕ Mem). Kept h n t m (x .left)) (eqb (block h n t m f o) 0)
       (λ e. let b = blocked h n t _ _ f o (eqb-true _ 0 e) in
       pick-case (λ (x : Out ℕ Mem). Kept h n t m (x .left)) (ltb o h) (λ _. put-small-kept H (needed (b .sized)) m f o (b .ends))
       (λ l. put-huge-kept H (needed (b .sized)) m f o (group-low f o b (ltb-false o h l))))

@@ -2,30 +2,16 @@
 use mathlib.Core.Bool.{Bool, false}
 use Prim.Native.Nat.{ℕ}
 use lib.Dec.{eqb, ltb}
-use lib.ListN.{length}
 use Rattle.base.specs.Walk.{pick}
-use Rattle.base.specs.Code.{Out, out}
+use Rattle.base.specs.Code.{Out, out, unrefused}
 use Rattle.shape.specs.declared.Got.{Got}
-use Rattle.shape.specs.Refuse.{sizesCode, blockCode, startCode}
-use Rattle.shape.specs.State.{Mem, keepingRows, got}
+use Rattle.shape.specs.declared.Stats.{Stats}
+use Rattle.shape.specs.State.{Mem, sizes, block, start, frame, keepingRows, got, counted}
 use Rattle.huge.specs.Huge.{getHuge, getHugeAt, putHuge, isFreeHuge}
 use Rattle.small.specs.Small.{getSmall, getSmallAt, putSmall, isFreeSmall}
 use Rattle.starts.specs.Starts as starts
+use Rattle.stats.specs.Stats.{statsAll, atOrder}
 use Rattle.lower.specs.declared.IsFree.{IsFree}
-
--- refused with code c and the memory as it was, or what is done
-abbrev pub unrefused : {A : Type 0} → ℕ → A → Mem → Out A Mem → Out A Mem
-unrefused c refusal m done = pick (eqb c 0) done (out refusal m)
-
--- the codes of a call that lends all of m
-abbrev pub sizes : ℕ → ℕ → ℕ → Mem → ℕ
-sizes h n t m = sizesCode h n t (length (m .rows)) (length (m .entries))
-
-abbrev pub block : ℕ → ℕ → ℕ → Mem → ℕ → ℕ → ℕ
-block h n t m f o = blockCode h n t (length (m .rows)) (length (m .entries)) f o
-
-abbrev pub start : ℕ → ℕ → ℕ → Mem → ℕ → ℕ → ℕ
-start h n t m row o = startCode h n t (length (m .rows)) (length (m .entries)) row o
 
 unfoldable pub freeAll : ℕ → ℕ → ℕ → Mem → Out ℕ Mem
 freeAll h n t m = unrefused (sizes h n t m) (sizes h n t m) m (out 0 (starts.freeAll h n t m))
@@ -56,3 +42,9 @@ says c y = record { code = c; yes = y }
 unfoldable pub isFree : ℕ → ℕ → ℕ → Mem → ℕ → ℕ → IsFree
 isFree h n t m f o =
     pick (eqb (block h n t m f o) 0) (says 0 (pick (ltb o h) (isFreeSmall h m f o) (isFreeHuge h (m .entries) f o))) (says (block h n t m f o) false)
+
+unfoldable pub stats : ℕ → ℕ → ℕ → Mem → Stats
+stats h n t m = pick (eqb (sizes h n t m) 0) (statsAll h n t (m .entries)) (counted (sizes h n t m) 0 0 0)
+
+unfoldable pub statsAt : ℕ → ℕ → ℕ → Mem → ℕ → ℕ → Stats
+statsAt h n t m f o = pick (eqb (frame h n t m f) 0) (atOrder h t m f o) (counted (frame h n t m f) 0 0 0)

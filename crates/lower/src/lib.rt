@@ -6,6 +6,7 @@ ghost use Rattle.base.specs.Size.{hugeOrder};
 ghost use Rattle.shape.specs.State.{mem};
 ghost use Rattle.lower.specs.Calls as spec;
 use shape::Got;
+use shape::Stats;
 
 pub mod sized;
 
@@ -83,4 +84,25 @@ pub fn is_free(
     ensures { λ r. ⌜ r ≡ spec.isFree hugeOrder n t (mem (now (rows .entry)) (now (entries .entry))) frame order ⌝ }
 {
     sized::is_free(base::HUGE_ORDER, n, t, rows, entries, frame, order)
+}
+
+// Free frames, huge frames and trees.
+pub fn stats(n: usize, t: usize, rows: &[u64], entries: &[u16]) -> Stats
+    ensures { λ r. ⌜ r ≡ spec.stats hugeOrder n t (mem (now (rows .entry)) (now (entries .entry))) ⌝ }
+{
+    sized::stats(base::HUGE_ORDER, n, t, rows, entries)
+}
+
+// The same at a frame, its huge frame or its tree, as the order says.
+pub fn stats_at(
+    n: usize,
+    t: usize,
+    rows: &[u64],
+    entries: &[u16],
+    frame: usize,
+    order: usize,
+) -> Stats
+    ensures { λ r. ⌜ r ≡ spec.statsAt hugeOrder n t (mem (now (rows .entry)) (now (entries .entry))) frame order ⌝ }
+{
+    sized::stats_at(base::HUGE_ORDER, n, t, rows, entries, frame, order)
 }

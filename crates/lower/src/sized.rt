@@ -6,6 +6,7 @@ ghost use Rattle.shape.specs.State.{mem};
 ghost use Rattle.lower.specs.Calls as spec;
 use super::IsFree;
 use shape::Got;
+use shape::Stats;
 
 pub fn free_all(h: usize, n: usize, t: usize, rows: &mut [u64], entries: &mut [u16]) -> u32
     requires { ⌜ Huge h ⌝ }
@@ -134,4 +135,44 @@ pub fn is_free(
         code: 0,
         yes: huge::is_free(h, entries, frame, order),
     }
+}
+
+pub fn stats(h: usize, n: usize, t: usize, rows: &[u64], entries: &[u16]) -> Stats
+    requires { ⌜ Huge h ⌝ }
+    ensures { λ r. ⌜ r ≡ spec.stats h n t (mem (now (rows .entry)) (now (entries .entry))) ⌝ }
+{
+    let code = refuse::sizes(h, n, t, rows.len(), entries.len());
+    if code != 0 {
+        return Stats {
+            code: code,
+            free_frames: 0,
+            free_huge: 0,
+            free_trees: 0,
+        };
+    }
+    stats::all(h, n, t, entries)
+}
+
+pub fn stats_at(
+    h: usize,
+    n: usize,
+    t: usize,
+    rows: &[u64],
+    entries: &[u16],
+    frame: usize,
+    order: usize,
+) -> Stats
+    requires { ⌜ Huge h ⌝ }
+    ensures { λ r. ⌜ r ≡ spec.statsAt h n t (mem (now (rows .entry)) (now (entries .entry))) frame order ⌝ }
+{
+    let code = refuse::frame(h, n, t, rows.len(), entries.len(), frame);
+    if code != 0 {
+        return Stats {
+            code: code,
+            free_frames: 0,
+            free_huge: 0,
+            free_trees: 0,
+        };
+    }
+    stats::at(h, t, rows, entries, frame, order)
 }

@@ -1,10 +1,10 @@
 -- Document 01's refusals: the answer of each check, what the checks that passed show to the next, and how checks are grouped. Assumes nothing.
-use mathlib.Core.Path.{_≡_, refl, sym, _∙_}
-use mathlib.Core.Bool.{Bool, true, false}
+use mathlib.Core.Path.{_≡_, refl}
+use mathlib.Core.Bool.{true}
 use Prim.Native.Nat.{ℕ, zero, suc, _+_, _-_, _*_, _/_, _^_, _≤_, _<_}
 use native.Mathlib.Omega.{arith}
 use lib.Dec.{leb, ltb}
-use borrow.Author.Tests.{lt-ltb, le-ltb, le-leb, lt-leb, ne-eqb, ltb-true, leb-true}
+use borrow.Author.Tests.{lt-ltb, le-ltb, le-leb, lt-leb, ltb-true, leb-true}
 use Rattle.base.specs.Code.{unless, orElse}
 use Rattle.base.specs.Size.{Huge}
 use Rattle.base.proofs.Codes.{stops, passes, none-of, holds}
@@ -13,20 +13,6 @@ use Rattle.shape.specs.Shape.{treeLog, isTree, topOrder, aligned, rowsNeeded, e
 use Rattle.shape.specs.Refuse.{framesCode, lentCode, sizesCode, orderCode, Sized}
 use Rattle.shape.proofs.Laws.{tree-pow}
 use Rattle.shape.proofs.Lent.{sized}
-
--- the first of three codes that is not 0 is the same however they are grouped
-pub regrouped : (a b c : ℕ) → orElse (orElse a b) c ≡ orElse a (orElse b c)
-unfolding orElse
-regrouped zero b c = refl
-regrouped (suc a) b c = simp (ne-eqb (suc a) 0 (λ e. omega arith))
-
--- a test that holds gives no code: r is what the code's own test answers
-pub no-code : {r b : Bool} (c : ℕ) → r ≡ b → r ≡ true → 0 ≡ unless b c
-no-code c e q = rw (sym e ∙ q)
-
--- and one that fails gives its code
-pub its-code : {r b : Bool} (c : ℕ) → r ≡ b → r ≡ false → c ≡ unless b c
-its-code c e q = rw (sym e ∙ q)
 
 -- ---- 1: the frames
 

@@ -2,7 +2,7 @@
 ghost use mathlib.Core.Path.{_≡_};
 ghost use Rattle.base.specs.Code.{orElse};
 ghost use Rattle.base.specs.Size.{Huge};
-ghost use Rattle.shape.specs.Refuse.{framesCode, treeCode, sizesCode, orderCode, blockCode, startCode};
+ghost use Rattle.shape.specs.Refuse.{framesCode, treeCode, sizesCode, orderCode, blockCode, startCode, frameCode};
 
 fn frames(n: usize) -> u32
     ensures { λ r. ⌜ r ≡ framesCode n ⌝ }
@@ -106,4 +106,16 @@ pub fn start(
         return code;
     }
     if row <= (n - 1) / 64 { 0 } else { 5 }
+}
+
+// 1, 2, 3 and 5, of a frame.
+pub fn frame(h: usize, n: usize, t: usize, rows: usize, entries: usize, frame: usize) -> u32
+    requires { ⌜ Huge h ⌝ }
+    ensures { λ r. ⌜ r ≡ frameCode h n t rows entries frame ⌝ }
+{
+    let code = sizes(h, n, t, rows, entries);
+    if code != 0 {
+        return code;
+    }
+    if frame < n { 0 } else { 5 }
 }

@@ -1,23 +1,19 @@
 -- What passing the refusals means, and so which rows and entries are lent. Assumes nothing.
-use mathlib.Core.Path.{_≡_, refl, sym, ap, _∙_}
-use mathlib.Core.Bool.{Bool, true, false, _&&_}
+use mathlib.Core.Path.{_≡_, sym, ap, _∙_}
 use Prim.Native.Nat.{ℕ, zero, suc, _+_, _-_, _*_, _/_, _%_, _^_, _≤_, _<_}
 use native.Mathlib.Nat.{sub-add-cancel, zero-mod, mul-pos, mul-le-mul-right, div-add-mod', mul-comm, lt-of-mul-lt-mul-right}
 use native.Mathlib.Omega.{arith}
 use lib.Dec.{leb, ltb}
 use lib.Pow.{pow-pos, high, ones-lt, mod-mod-pow}
-use borrow.Author.Tests.{leb-true, ltb-true, eqb-true}
+use borrow.Author.Tests.{lt-ltb, le-leb, leb-true, ltb-true, eqb-true}
 use Rattle.base.specs.Code.{unless, orElse}
 use Rattle.base.specs.Size.{Huge, rowsOf}
-use Rattle.base.proofs.Codes.{none-of, holds}
+use Rattle.base.proofs.Codes.{none-of, holds, both}
 use Rattle.base.proofs.Sizes.{rows-frames, pow-divides}
 use Rattle.shape.specs.Shape.{topOrder, aligned, ceil, rowsNeeded, entriesNeeded}
-use Rattle.shape.specs.Refuse.{framesCode, treeCode, lentCode, sizesCode, orderCode, blockCode, startCode, Sized, Blocked, Started}
+use Rattle.shape.specs.Refuse.{framesCode, treeCode, lentCode, sizesCode, orderCode, blockCode, startCode, frameCode, Sized, Blocked, Started, Framed}
+use Rattle.shape.proofs.Present.{present-low}
 use Rattle.shape.proofs.Laws.{ceil-covers, entries-cover, tree-pos}
-
-both : (x y : Bool) → (x && y) ≡ true → (x ≡ true) × (y ≡ true)
-both true y e = (refl, e)
-both false y e = absurd (let z : _≡_ {A = ℕ} 0 1 = cc in omega arith)
 
 -- ---- what passing means
 
@@ -34,6 +30,11 @@ sized h n t rl el e =
       rows = leb-true (rowsNeeded h n) rl (d .0);
       entries = leb-true (entriesNeeded h n t) el (d .1);
     }
+
+-- and sizes that fit pass
+pub sized-passes : {h n t rl el : ℕ} → Sized h n t rl el → sizesCode h n t rl el ≡ 0
+unfolding orElse
+sized-passes {h} {n} {t} {rl} {el} s = rw (lt-ltb 0 n (s .some), le-leb n 1048576 (s .most), s .tree, le-leb _ rl (s .rows), le-leb _ el (s .entries))
 
 pub blocked : (h n t rl el f o : ℕ) → blockCode h n t rl el f o ≡ 0 → Blocked h n t rl el f o
 blocked h n t rl el f o e =
@@ -57,16 +58,17 @@ started h n t rl el row o e =
       begins = ltb-true (row * 64) n (holds _ 4 (b .1));
     }
 
+pub framed : (h n t rl el f : ℕ) → frameCode h n t rl el f ≡ 0 → Framed h n t rl el f
+framed h n t rl el f e =
+    let a = none-of (sizesCode h n t rl el) (unless (ltb f n) 5) e in
+    record { sized = sized h n t rl el (a .0); below = ltb-true f n (holds _ 4 (a .1)) }
+
 -- ---- the rows of a present huge frame are lent
 
 module _ {h n t rl el : ℕ} (H : Huge h) (s : Sized h n t rl el) where
-  -- a huge frame that begins below N has its number below ceil(N / 512)
-  present-low : (x : ℕ) → x * 2 ^ h < n → x < ceil n (2 ^ h)
-  present-low x l = lt-of-mul-lt-mul-right (2 ^ h) (omega (arith, ceil-covers n (2 ^ h) (pow-pos h)))
-
   pub present-rows : (x : ℕ) → x * 2 ^ h < n → (x + 1) * rowsOf h ≤ rl
   present-rows x l =
-      let m : (x + 1) * rowsOf h ≤ ceil n (2 ^ h) * rowsOf h = mul-le-mul-right (rowsOf h) (omega (arith, present-low x l)) in
+      let m : (x + 1) * rowsOf h ≤ ceil n (2 ^ h) * rowsOf h = mul-le-mul-right (rowsOf h) (omega (arith, present-low h n x l)) in
       omega (arith, s .rows, mul-comm (rowsOf h) (ceil n (2 ^ h)))
 
   -- ---- the entries of a tree that begins below N are lent
@@ -77,17 +79,30 @@ module _ {h n t rl el : ℕ} (H : Huge h) (s : Sized h n t rl el) where
       let m : (y + 1) * t ≤ ceil n (2 ^ h * t) * t = mul-le-mul-right t (omega arith) in
       omega (arith, s .entries, mul-comm t (ceil n (2 ^ h * t)))
 
--- ---- a block's entry and rows are lent
+-- ---- a frame's entry and rows are lent, and its tree's entries
+
+module _ {h n t rl el f : ℕ} (H : Huge h) (b : Framed h n t rl el f) where
+  pub frame-entry : f / 2 ^ h < el
+  frame-entry = omega (arith, b .sized .entries, entries-cover h n t f (tree-pos t (b .sized .tree)) (b .below))
+
+  pub frame-row : (f / 2 ^ h + 1) * rowsOf h ≤ rl
+  frame-row = present-rows H (b .sized) (f / 2 ^ h) (omega (arith, b .below, div-add-mod' f (2 ^ h)))
+
+  pub frame-tree : (f / (2 ^ h * t) + 1) * t ≤ el
+  frame-tree = tree-entries H (b .sized) (f / (2 ^ h * t)) (omega (arith, b .below, div-add-mod' f (2 ^ h * t)))
+
+-- ---- so are a block's
 
 module _ {h n t rl el f o : ℕ} (H : Huge h) (b : Blocked h n t rl el f o) where
-  first-low : f < n
-  first-low = omega (arith, b .ends, pow-pos o)
+  -- its first frame
+  at-first : Framed h n t rl el f
+  at-first = record { sized = b .sized; below = omega (arith, b .ends, pow-pos o) }
 
   pub block-entry : f / 2 ^ h < el
-  block-entry = omega (arith, b .sized .entries, entries-cover h n t f (tree-pos t (b .sized .tree)) first-low)
+  block-entry = frame-entry H at-first
 
   pub block-row : (f / 2 ^ h + 1) * rowsOf h ≤ rl
-  block-row = present-rows H (b .sized) (f / 2 ^ h) (omega (arith, first-low, div-add-mod' f (2 ^ h)))
+  block-row = frame-row H at-first
 
   -- from the huge order on, all its entries
   pub block-entries : h ≤ o → f / 2 ^ h + 2 ^ (o - h) ≤ el

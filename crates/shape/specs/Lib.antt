@@ -1,3 +1,3 @@
 pub mod Shape
-pub mod State
 pub mod Refuse
+pub mod State

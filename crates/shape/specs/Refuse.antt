@@ -35,6 +35,10 @@ blockCode h n t rl el f o =
 abbrev pub startCode : ℕ → ℕ → ℕ → ℕ → ℕ → ℕ → ℕ → ℕ
 startCode h n t rl el row o = orElse (sizesCode h n t rl el) (orElse (orderCode h t o) (unless (ltb (row * 64) n) 5))
 
+-- 1, 2, 3 and 5, "frame ≥ N": stats_at, room, tree run
+abbrev pub frameCode : ℕ → ℕ → ℕ → ℕ → ℕ → ℕ → ℕ
+frameCode h n t rl el f = orElse (sizesCode h n t rl el) (unless (ltb f n) 5)
+
 -- what passing 1 to 3 means
 pub record Sized (h n t rl el : ℕ) : Type 0 where
   pub some : 0 < n
@@ -55,3 +59,8 @@ pub record Started (h n t rl el row o : ℕ) : Type 0 where
   pub sized : Sized h n t rl el
   pub top : o ≤ topOrder h t
   pub begins : row * 64 < n
+
+-- what passing 1, 2, 3 and 5 means, of a frame
+pub record Framed (h n t rl el f : ℕ) : Type 0 where
+  pub sized : Sized h n t rl el
+  pub below : f < n

@@ -1,7 +1,7 @@
 -- Document 01, "Numbers and memory": the numbers that follow from the huge order h, the tree size t and the frames n.
 use mathlib.Core.Bool.{Bool}
 use Prim.Native.Nat.{ℕ, _+_, _-_, _*_, _/_, _%_, _^_}
-use lib.Dec.{eqb, ltb}
+use lib.Dec.{eqb, leb, ltb}
 use Rattle.base.specs.Walk.{first}
 use Rattle.base.specs.Size.{rowsOf}
 use Rattle.shape.specs.declared.Init.{Init}
@@ -50,6 +50,14 @@ rowsNeeded h n = rowsOf h * ceil n (2 ^ h)
 
 abbrev pub entriesNeeded : ℕ → ℕ → ℕ → ℕ
 entriesNeeded h n t = t * ceil n (2 ^ h * t)
+
+-- "entries with no huge frame behind them are absent": a present huge frame begins below N
+abbrev pub present : ℕ → ℕ → ℕ → Bool
+present h n x = ltb (x * 2 ^ h) n
+
+-- "lies wholly below N"
+abbrev pub whole : ℕ → ℕ → ℕ → Bool
+whole h n x = leb ((x + 1) * 2 ^ h) n
 
 -- "m 0 free, 1 held": the number of each start
 abbrev pub initNumber : Init → ℕ

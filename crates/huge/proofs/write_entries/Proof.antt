@@ -6,7 +6,7 @@ use native.Mathlib.Omega.{arith}
 use borrow.Author.Needs.{needs}
 use lib.ListN.{length, set, length-set}
 use Rattle.base.specs.Walk.{written}
-use Rattle.base.proofs.Walks.{written-more}
+use Rattle.base.proofs.Written.{written-more}
 use Rattle.huge.proofs.write_entries.Statement.{statement}
 use Rattle.huge.proofs.write_entries.Tie as tie
 

@@ -2,8 +2,8 @@
 use mathlib.Core.Path.{sym, _∙_}
 use Prim.Native.Nat.{_<_}
 use borrow.Author.Needs.{needs}
-use Rattle.base.proofs.Codes.{stops, passes}
-use Rattle.refuse.proofs.Refusals.{regrouped, no-code, its-code, order-low, size-past, end-past, end-within}
+use Rattle.base.proofs.Codes.{stops, passes, regrouped, no-code, its-code}
+use Rattle.refuse.proofs.Refusals.{order-low, size-past, end-past, end-within}
 use Rattle.refuse.proofs.block.Statement.{statement}
 use Rattle.refuse.proofs.block.Tie as tie
 

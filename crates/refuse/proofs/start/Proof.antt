@@ -2,8 +2,8 @@
 use mathlib.Core.Path.{sym, _∙_}
 use Prim.Native.Nat.{_<_}
 use borrow.Author.Needs.{needs}
-use Rattle.base.proofs.Codes.{stops, passes}
-use Rattle.refuse.proofs.Refusals.{regrouped, order-sized, row-within, row-past}
+use Rattle.base.proofs.Codes.{stops, passes, regrouped}
+use Rattle.refuse.proofs.Refusals.{order-sized, row-within, row-past}
 use Rattle.refuse.proofs.start.Statement.{statement}
 use Rattle.refuse.proofs.start.Tie as tie
 

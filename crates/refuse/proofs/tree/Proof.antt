@@ -1,6 +1,6 @@
 -- `refuse::tree` meets its contract: the code is that of its one test. Assumes nothing.
 use borrow.Author.Needs.{needs}
-use Rattle.refuse.proofs.Refusals.{no-code, its-code}
+use Rattle.base.proofs.Codes.{no-code, its-code}
 use Rattle.refuse.proofs.tree.Statement.{statement}
 use Rattle.refuse.proofs.tree.Tie as tie
 

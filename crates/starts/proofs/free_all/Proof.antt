@@ -6,7 +6,8 @@ use borrow.Author.Needs.{needs}
 use borrow.Author.Tests.{ltb-true}
 use Rattle.shape.specs.Shape.{entriesNeeded}
 use Rattle.starts.specs.Starts as spec
-use Rattle.starts.proofs.Entries.{EntriesAt, entries-start, entries-more, entries-end, frames-word, needed-is, entry-low}
+use Rattle.shape.proofs.Needed.{frames-word, needed-is, entry-low}
+use Rattle.starts.proofs.Entries.{EntriesAt, entries-start, entries-more, entries-end}
 use Rattle.starts.proofs.free_all.Statement.{statement}
 use Rattle.starts.proofs.free_all.Tie as tie
 

@@ -7,7 +7,7 @@ use borrow.Author.Needs.{needs}
 use borrow.Author.Tests.{le-leb, lt-leb}
 use Rattle.base.specs.Walk.{pick}
 use Rattle.shape.specs.Shape.{mark}
-use Rattle.starts.proofs.Entries.{frames-word}
+use Rattle.shape.proofs.Needed.{frames-word}
 use Rattle.starts.proofs.held_entry.Statement.{statement}
 use Rattle.starts.proofs.held_entry.Tie as tie
 

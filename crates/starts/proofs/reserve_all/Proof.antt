@@ -7,7 +7,8 @@ use borrow.Author.Needs.{needs}
 use borrow.Author.Tests.{ltb-true}
 use Rattle.shape.specs.Shape.{entriesNeeded}
 use Rattle.starts.specs.Starts as spec
-use Rattle.starts.proofs.Entries.{EntriesAt, entries-start, entries-more, entries-end, needed-is, entry-low}
+use Rattle.shape.proofs.Needed.{needed-is, entry-low}
+use Rattle.starts.proofs.Entries.{EntriesAt, entries-start, entries-more, entries-end}
 use Rattle.starts.proofs.Rows.{begins-low}
 use Rattle.starts.proofs.reserve_all.Statement.{statement}
 use Rattle.starts.proofs.reserve_all.Tie as tie

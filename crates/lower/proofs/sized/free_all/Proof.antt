@@ -4,7 +4,7 @@ use borrow.Author.Needs.{needs}
 use Rattle.base.specs.Code.{out}
 use Rattle.shape.specs.State.{Mem}
 use Rattle.shape.proofs.Lent.{sized}
-use Rattle.lower.proofs.Cases.{refuses, does-it}
+use Rattle.base.proofs.Codes.{refuses, does-it}
 use Rattle.lower.specs.Calls as spec
 use Rattle.lower.proofs.sized.free_all.Statement.{statement}
 use Rattle.lower.proofs.sized.free_all.Tie as tie

@@ -3,7 +3,8 @@ use mathlib.Core.Path.{sym, ap, _∙_}
 use borrow.Author.Needs.{needs}
 use Rattle.shape.specs.State.{got, keepingRows}
 use Rattle.shape.proofs.Lent.{started}
-use Rattle.lower.proofs.Cases.{refuses, does-it, by-small, by-huge}
+use Rattle.base.proofs.Codes.{refuses, does-it}
+use Rattle.lower.proofs.Cases.{by-small, by-huge}
 use Rattle.lower.specs.Calls as spec
 use Rattle.lower.proofs.sized.get.Statement.{statement}
 use Rattle.lower.proofs.sized.get.Tie as tie

@@ -4,7 +4,8 @@ use lib.ListN.{length}
 use borrow.Author.Needs.{needs}
 use Rattle.shape.specs.State.{got, keepingRows}
 use Rattle.shape.proofs.Lent.{blocked}
-use Rattle.lower.proofs.Cases.{refuses, does-it, by-small, by-huge}
+use Rattle.base.proofs.Codes.{refuses, does-it}
+use Rattle.lower.proofs.Cases.{by-small, by-huge}
 use Rattle.lower.specs.Calls as spec
 use Rattle.lower.proofs.sized.get_at.Statement.{statement}
 use Rattle.lower.proofs.sized.get_at.Tie as tie

@@ -1,0 +1,4 @@
+pub mod Rows
+pub mod Reasons
+pub mod Audits
+pub mod Cases

@@ -1,0 +1,46 @@
+-- What makes a frame free, and what makes it held. Assumes nothing.
+use mathlib.Core.Path.{_≡_, refl}
+use mathlib.Core.Bool.{Bool, true, false, not, _&&_}
+use Prim.Native.Nat.{ℕ, _≤_, _<_}
+use native.Mathlib.Omega.{arith}
+use lib.Dec.{eqb, ltb}
+use borrow.Author.Tests.{eq-eqb, ne-eqb, lt-ltb, le-ltb}
+use Rattle.base.specs.Bits.{bitIs}
+use Rattle.base.specs.Size.{Huge}
+use Rattle.base.proofs.Sizes.{frames-fit}
+use Rattle.shape.specs.Shape.{mark, hugeOf}
+use Rattle.shape.specs.State.{Mem, entryOf}
+use Rattle.claims.specs.Consistent.{Counted, free}
+
+-- a count is never the mark
+pub no-mark : {h n : ℕ} {m : Mem} {x : ℕ} → Huge h → Counted h n m x → entryOf (m .entries) x ≡ mark → ⊥
+no-mark H k q = omega (arith, k .most, frames-fit H)
+
+-- the three tests of a free frame: all pass, the second fails, or the third
+passes : {a b c : Bool} → a ≡ true → b ≡ true → c ≡ false → (a && (b && not c)) ≡ true
+passes p q r = rw (p, q, r)
+
+second-fails : (a : Bool) {b : Bool} (c : Bool) → b ≡ false → (a && (b && not c)) ≡ false
+second-fails true c q = rw q
+second-fails false c q = refl
+
+third-fails : (a b : Bool) {c : Bool} → c ≡ true → (a && (b && not c)) ≡ false
+third-fails true true r = rw r
+third-fails true false r = refl
+third-fails false b r = refl
+
+module _ (h n : ℕ) (m : Mem) (f : ℕ) where
+  pub is-free : f < n → bitIs false (m .rows) f ≡ true → (entryOf (m .entries) (hugeOf h f) ≡ mark → ⊥) → free h n m f ≡ true
+  is-free l e q = passes (lt-ltb f n l) e (ne-eqb (entryOf (m .entries) (hugeOf h f)) mark q)
+
+  -- a frame whose bit is set is held
+  pub held-bit : bitIs false (m .rows) f ≡ false → free h n m f ≡ false
+  held-bit e = second-fails (ltb f n) (eqb (entryOf (m .entries) (hugeOf h f)) mark) e
+
+  -- so is one under a mark
+  pub held-mark : entryOf (m .entries) (hugeOf h f) ≡ mark → free h n m f ≡ false
+  held-mark e = third-fails (ltb f n) (bitIs false (m .rows) f) (eq-eqb (entryOf (m .entries) (hugeOf h f)) mark e)
+
+  -- and one past N
+  pub held-past : n ≤ f → free h n m f ≡ false
+  held-past l = rw (le-ltb f n l)

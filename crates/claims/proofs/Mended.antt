@@ -1,0 +1,80 @@
+-- Memory that recover has mended: its entries, rows and bits, in the huge frames that are marked and in the others. Assumes nothing.
+use mathlib.Core.Path.{_≡_, ap, _∙_}
+use mathlib.Core.Bool.{Bool, true, false}
+use mathlib.Core.List.{List}
+use Prim.Native.Nat.{ℕ, _*_, _%_, _^_, _≤_, _<_}
+use native.Mathlib.Decide.{decLt}
+use native.Mathlib.Nat.{zero-div}
+use native.Mathlib.Omega.{arith}
+use lib.Dec.{eqb}
+use lib.ListN.{length, getD}
+use borrow.Author.Tests.{eq-eqb, ne-eqb}
+use Rattle.base.specs.Bits.{bitsAt, bitIs}
+use Rattle.base.specs.Size.{Huge}
+use Rattle.base.specs.Walk.{pick}
+use Rattle.base.proofs.Written.{written-in, written-beyond, length-written}
+use Rattle.shape.specs.Shape.{mark, hugeOf, rowOf, ceil, rowsNeeded}
+use Rattle.shape.specs.Refuse.{Sized}
+use Rattle.shape.specs.State.{Mem, entryOf, clearOf}
+use Rattle.shape.proofs.Laws.{huge-of-row, rows-cover, tree-pos}
+use Rattle.recover.specs.Recover.{entryAfter, rowAfter, mended}
+use Rattle.shape.proofs.Present.{present-low, absent-high, present-entry}
+
+-- equal rows have equal bits
+same-bit : (b : Bool) (rs rs′ : List ℕ) (f : ℕ) → getD rs (rowOf f) 0 ≡ getD rs′ (rowOf f) 0 → bitIs b rs f ≡ bitIs b rs′ f
+unfolding bitIs
+same-bit b rs rs′ f e = ap (λ (v : ℕ). eqb (bitsAt v (f % 64) 1) (pick b 1 0)) e
+
+-- and a row of 0 has all its bits clear
+zero-bit : (rs : List ℕ) (f : ℕ) → getD rs (rowOf f) 0 ≡ 0 → bitIs false rs f ≡ true
+unfolding bitIs
+zero-bit rs f e = ap (λ (v : ℕ). eqb (bitsAt v (f % 64) 1) 0) e ∙ ap (λ (v : ℕ). eqb (v % 2) 0) (zero-div (2 ^ (f % 64)))
+
+module _ {h n t : ℕ} (m : Mem) (s : Sized h n t (length (m .rows)) (length (m .entries))) where
+  pub mended-sized : Sized h n t (length (mended h n m .rows)) (length (mended h n m .entries))
+  unfolding mended
+  mended-sized = rw (length-written (rowAfter h m) (m .rows) 0 (rowsNeeded h n), length-written (entryAfter h m) (m .entries) 0 (ceil n (2 ^ h))) s
+
+  -- ---- entries
+
+  -- those of absent huge frames stay
+  pub mended-absent : (x : ℕ) → n ≤ x * 2 ^ h → entryOf (mended h n m .entries) x ≡ entryOf (m .entries) x
+  unfolding mended
+  mended-absent x l = written-beyond (entryAfter h m) (m .entries) 0 (ceil n (2 ^ h)) x (omega (arith, absent-high h n x l))
+
+  module _ (x : ℕ) (l : x * 2 ^ h < n) where
+    mended-entry : entryOf (mended h n m .entries) x ≡ entryAfter h m x
+    unfolding mended
+    mended-entry =
+        written-in (entryAfter h m) (m .entries) 0 (ceil n (2 ^ h)) x (omega arith) (omega (arith, present-low h n x l))
+        (omega (arith, present-entry h n t x (tree-pos t (s .tree)) l, s .entries))
+
+    -- a mark stays
+    pub mended-mark : entryOf (m .entries) x ≡ mark → entryOf (mended h n m .entries) x ≡ mark
+    mended-mark e = mended-entry ∙ rw (eq-eqb (entryOf (m .entries) x) mark e)
+
+    -- any other entry is the number of clear bits
+    pub mended-count : (entryOf (m .entries) x ≡ mark → ⊥) → entryOf (mended h n m .entries) x ≡ clearOf h (m .rows) x
+    mended-count e = mended-entry ∙ rw (ne-eqb (entryOf (m .entries) x) mark e)
+
+  -- ---- rows and their bits
+
+  pub mended-row : (i : ℕ) → i < rowsNeeded h n → getD (mended h n m .rows) i 0 ≡ rowAfter h m i
+  unfolding mended
+  mended-row i l = written-in (rowAfter h m) (m .rows) 0 (rowsNeeded h n) i (omega arith) (omega arith) (omega (arith, s .rows))
+
+  pub mended-beyond : (i : ℕ) → rowsNeeded h n ≤ i → getD (mended h n m .rows) i 0 ≡ getD (m .rows) i 0
+  unfolding mended
+  mended-beyond i l = written-beyond (rowAfter h m) (m .rows) 0 (rowsNeeded h n) i (omega arith)
+
+  module _ (H : Huge h) (f : ℕ) where
+    -- a frame under a mark has its bit clear
+    pub mended-clear : entryOf (m .entries) (hugeOf h f) ≡ mark → f < n → bitIs false (mended h n m .rows) f ≡ true
+    mended-clear e l = zero-bit (mended h n m .rows) f (mended-row (rowOf f) (rows-cover n f H l) ∙ rw (← huge-of-row f H, eq-eqb _ _ e))
+
+    -- any other keeps its own
+    pub mended-same : (entryOf (m .entries) (hugeOf h f) ≡ mark → ⊥) → (b : Bool) → bitIs b (mended h n m .rows) f ≡ bitIs b (m .rows) f
+    mended-same e b = same-bit b (mended h n m .rows) (m .rows) f (elim (decLt (rowOf f) (rowsNeeded h n)) [
+      | yes l ↦ mended-row (rowOf f) l ∙ rw (← huge-of-row f H, ne-eqb _ _ e)
+      | no l ↦ mended-beyond (rowOf f) (omega arith)
+    ])

@@ -1,0 +1,5 @@
+pub mod Pastes
+pub mod Texts
+pub mod Cases
+pub mod OneField
+pub mod Laws

@@ -1,0 +1,29 @@
+-- `lower::sized::stats_at` meets its contract: refused, or counted at the frame. Assumes nothing.
+use mathlib.Core.Path.{sym, _∙_}
+use Prim.Native.Nat.{ℕ}
+use borrow.Author.Needs.{needs}
+use Rattle.base.proofs.Codes.{refused, answered}
+use Rattle.shape.specs.State.{counted}
+use Rattle.shape.proofs.Lent.{framed}
+use Rattle.lower.specs.Calls as spec
+use Rattle.lower.proofs.sized.stats_at.Statement.{statement}
+use Rattle.lower.proofs.sized.stats_at.Tie as tie
+
+frame-requires : tie.Need-frame-requires
+frame-requires c κs = search needs
+
+returns : tie.Need-returns
+unfolding spec.statsAt
+returns c = refused _ (λ (r : ℕ). counted r 0 0 0) (c .before .frame .ensures) (c .if1 .taken)
+
+at-requires : tie.Need-at-requires
+at-requires c κs =
+    let k = c .before .before .before .before in
+    (k .pre, (k .args .n, framed _ _ _ _ _ _ (sym (c .before .frame .ensures) ∙ c .if1 .left)))
+
+returns-2 : tie.Need-returns-2
+unfolding spec.statsAt
+returns-2 c = answered _ _ (sym (c .before .before .frame .ensures) ∙ c .before .if1 .left) (c .at .ensures)
+
+pub stats-at-spec : {M : Type 1} → statement M
+stats-at-spec = tie.close (tie.spec frame-requires returns at-requires returns-2)

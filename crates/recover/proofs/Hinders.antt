@@ -1,0 +1,122 @@
+-- Where a reason can hinder: 1 and 3 at the last present huge frame, 5 at the absent ones. Assumes nothing.
+use mathlib.Core.Path.{_≡_, refl, sym, ap, _∙_}
+use mathlib.Core.Bool.{Bool, true, false, not}
+use mathlib.Core.Logic.{⊎-elim}
+use mathlib.Core.List.{List}
+use Prim.Native.Nat.{ℕ, _+_, _-_, _*_, _^_, _≤_, _<_}
+use native.Mathlib.Nat.{zero-add, mod-lt, div-add-mod', mul-le-mul-right}
+use native.Mathlib.Decide.{ℕ-discrete, decLt}
+use native.Mathlib.Omega.{arith}
+use lib.Dec.{eqb, lit<}
+use lib.ListN.{length}
+use lib.Pow.{pow-pos, shr-le}
+use borrow.Author.Tests.{ne-eqb}
+use Rattle.base.specs.Walk.{pick, all}
+use Rattle.base.specs.Code.{unless}
+use Rattle.base.specs.Bits.{blockIs}
+use Rattle.base.proofs.Walks.{all-of, all-not, all-same, all-parts}
+use Rattle.shape.specs.Shape.{mark, hugeOf, whole, entriesNeeded}
+use Rattle.shape.specs.Refuse.{Sized}
+use Rattle.shape.specs.State.{Mem, mem, entryOf, clearOf}
+use Rattle.shape.proofs.Laws.{tree-pos, entries-cover}
+use Rattle.audit.specs.Audit.{reason}
+use Rattle.audit.proofs.Reasons.{reason-absent, reason-marked, reason-counted, reason-whole}
+use Rattle.huge.specs.Huge.{entriesAre}
+use Rattle.recover.specs.Recover.{hinders, recoverable}
+
+-- ---- the last present huge frame
+
+module _ {h n t rl el : ℕ} (s : Sized h n t rl el) {last : ℕ} (last-is : last ≡ hugeOf h (n - 1)) where
+  -- it begins below N
+  pub last-present : last * 2 ^ h < n
+  last-present = rw last-is (omega (arith, s .some, div-add-mod' (n - 1) (2 ^ h)))
+
+  -- and reaches N, or ends past it
+  pub last-reaches : n ≤ (last + 1) * 2 ^ h
+  last-reaches = rw last-is (omega (arith, s .some, div-add-mod' (n - 1) (2 ^ h), mod-lt (n - 1) (pow-pos h)))
+
+  -- so its number is small
+  pub last-low : last < 1048576
+  last-low = rw last-is (omega (arith, s .some, s .most, shr-le (n - 1) h))
+
+  -- its entry is needed
+  pub last-needed : last < entriesNeeded h n t
+  last-needed = rw last-is (entries-cover h n t (n - 1) (tree-pos t (s .tree)) (omega (arith, s .some)))
+
+  -- those before it lie wholly below N
+  before-whole : {x : ℕ} → x < last → (x + 1) * 2 ^ h ≤ n
+  before-whole {x} l =
+      let m : (x + 1) * 2 ^ h ≤ last * 2 ^ h = mul-le-mul-right (2 ^ h) (omega arith) in
+      omega (arith, last-present)
+
+  -- those behind it are absent
+  behind-absent : {x : ℕ} → last < x → n ≤ x * 2 ^ h
+  behind-absent {x} l =
+      let m : (last + 1) * 2 ^ h ≤ x * 2 ^ h = mul-le-mul-right (2 ^ h) (omega arith) in
+      omega (arith, last-reaches)
+
+-- ---- which reasons hinder
+
+module _ (h n : ℕ) (m : Mem) (x : ℕ) where
+  -- a whole huge frame's does not
+  whole-free : (x + 1) * 2 ^ h ≤ n → hinders (reason h n m x) ≡ false
+  whole-free w = ⊎-elim (λ e. ap hinders e) (⊎-elim (λ e. ap hinders e) (λ e. ap hinders e)) (reason-whole h n m x w)
+
+  -- a present one's is below 5
+  present-low : x * 2 ^ h < n → reason h n m x < 5
+  present-low l = elim (ℕ-discrete (entryOf (m .entries) x) mark) [
+    | yes k ↦ rw (reason-marked h n m x l k) (lower (whole h n x) (blockIs false (m .rows) (x * 2 ^ h) (2 ^ h)) 2 1 (lit< tt) (lit< tt))
+    | no k ↦
+        rw (reason-counted h n m x l k)
+        (lower (blockIs true (m .rows) n ((x + 1) * 2 ^ h - n)) (eqb (entryOf (m .entries) x) (clearOf h (m .rows) x)) 4 3 (lit< tt) (lit< tt))
+  ]
+    where
+      lower : (s t : Bool) (c d : ℕ) → c < 5 → d < 5 → pick s (unless t c) d < 5
+      lower true true c d p q = lit< tt
+      lower true false c d p q = p
+      lower false t c d p q = q
+
+  -- an absent one's does where its entry is not 0
+  absent-free : n ≤ x * 2 ^ h → not (hinders (reason h n m x)) ≡ eqb (entryOf (m .entries) x) 0
+  absent-free l = ap (λ (r : ℕ). not (hinders r)) (reason-absent h n m x l) ∙ five (eqb (entryOf (m .entries) x) 0)
+    where
+      five : (b : Bool) → not (hinders (unless b 5)) ≡ b
+      five true = refl
+      five false = refl
+
+-- ---- the test of all huge frames
+
+module _ {h n t : ℕ} (rs es : List ℕ) (s : Sized h n t (length rs) (length es)) {last r : ℕ} (last-is : last ≡ hugeOf h (n - 1))
+    (r-is : r ≡ reason h n (mem rs es) last) where
+  -- a reason of the last present one that hinders is enough
+  pub hindered-last : hinders r ≡ true → true ≡ not (recoverable h n t (mem rs es))
+  unfolding recoverable
+  hindered-last e =
+      sym (ap not (all-not (λ x. not (hinders (reason h n (mem rs es) x))) (entriesNeeded h n t) 0 last (omega arith) (omega (arith, last-needed s last-is))
+      (ap not (rw r-is at e))))
+
+  -- without one, the absent entries decide
+  pub hindered-absent : (r ≡ 1 → ⊥) → (r ≡ 3 → ⊥) → {needed : ℕ} {clean : Bool} → needed ≡ entriesNeeded h n t → clean ≡ entriesAre 0 es (last + 1) (needed - (last + 1))
+      → not clean ≡ not (recoverable h n t (mem rs es))
+  unfolding recoverable
+  hindered-absent n1 n3 {needed} {clean} needed-is clean-is = ap not (clean-is ∙ sym split)
+    where
+      free : ℕ → Bool
+      free x = not (hinders (reason h n (mem rs es) x))
+
+      present-free : (x : ℕ) → x < last + 1 → free x ≡ true
+      present-free x l = elim (decLt x last) [
+        | yes q ↦ ap not (whole-free h n (mem rs es) x (before-whole s last-is q))
+        | no q ↦
+            let here : x ≡ last = omega arith in
+            let low = present-low h n (mem rs es) last (last-present s last-is) in
+            rw (here, ← r-is, ne-eqb r 1 n1, ne-eqb r 3 n3, ne-eqb r 5 (λ e. omega arith))
+      ]
+
+      split : all free (entriesNeeded h n t) 0 ≡ entriesAre 0 es (last + 1) (needed - (last + 1))
+      split =
+          let parts : entriesNeeded h n t ≡ last + 1 + (needed - (last + 1)) = omega (arith, last-needed s last-is) in
+          let front : all free (last + 1) 0 ≡ true = all-of free (last + 1) 0 (λ x _ l. present-free x (omega arith)) in
+          ap (λ (k : ℕ). all free k 0) parts ∙ all-parts free (last + 1) (needed - (last + 1)) 0
+          ∙ rw (front, zero-add) (all-same free (λ x. eqb (entryOf es x) 0) (needed - (last + 1)) (last + 1)
+          (λ x l _. absent-free h n (mem rs es) x (behind-absent s last-is (omega arith))))

@@ -1,0 +1,5 @@
+pub mod Runs
+pub mod Mends
+pub mod Hinders
+pub mod Totals
+pub mod Mended

@@ -1,0 +1,193 @@
+-- The walk of a recovery over the present huge frames: what its loop knows, and that its totals are the numbers of those that differ before and after. Assumes nothing.
+use mathlib.Core.Path.{_≡_, refl, sym, ap, ap₂, _∙_}
+use mathlib.Core.Bool.{Bool, true, false, not}
+use mathlib.Core.List.{List}
+use Prim.Native.Nat.{ℕ, _+_, _-_, _*_, _/_, _^_, _≤_, _<_}
+use native.Mathlib.Nat.{zero-add, mul-comm, mul-le-mul-right, le-div-iff-mul-le, lt-of-mul-lt-mul-right}
+use native.Mathlib.Omega.{arith}
+use lib.Dec.{eqb}
+use lib.Pow.{pow-pos}
+use lib.ListN.{length, getD}
+use borrow.Author.Tests.{eq-eqb, not-true, not-false}
+use Rattle.base.specs.Walk.{pick, all, count, written}
+use Rattle.base.specs.Code.{Out, out}
+use Rattle.base.specs.Size.{Huge, rowsOf}
+use Rattle.base.specs.Bits.{bitIs}
+use Rattle.base.proofs.Walks.{all-of, all-same, count-le, count-same, count-none, count-parts, count-more}
+use Rattle.base.proofs.Written.{written-more, written-same, written-in, written-beyond, length-written}
+use Rattle.base.proofs.Sizes.{rows-frames}
+use Rattle.shape.specs.Shape.{hugeOf, ceil, rowsNeeded}
+use Rattle.shape.specs.Refuse.{Sized}
+use Rattle.shape.specs.State.{Mem, mem, entryOf, clearOf}
+use Rattle.shape.proofs.Laws.{ceil-covers, ceil-least}
+use Rattle.shape.proofs.Lent.{present-rows}
+use Rattle.recover.specs.declared.Recovered.{Recovered}
+use Rattle.recover.specs.Recover.{recovered, recoverable, entryAfter, rowAfter, mended, entriesDiffer, bitfieldsDiffer, recoverAll}
+use Rattle.recover.specs.Mend.{entryDiffers, rowsDiffer, mendedAt}
+use Rattle.recover.proofs.Runs.{written-parts}
+use Rattle.recover.proofs.Mends.{Its, its-huge}
+use Rattle.recover.proofs.Hinders.{last-present, last-reaches, last-needed}
+
+-- ---- those that differ before and after a run is written
+
+-- entries: k of them, from the first on
+entries-differ : (f : ℕ → ℕ) (es : List ℕ) (k : ℕ) → k ≤ length es → entriesDiffer es (written f es 0 k) ≡ count (λ x. not (eqb (entryOf es x) (f x))) k 0
+unfolding entriesDiffer
+entries-differ f es k l =
+    let parts : length es ≡ k + (length es - k) = omega arith in
+    ap (λ (n : ℕ). count differs n 0) parts ∙ count-parts differs k (length es - k) 0
+    ∙ omega (
+      arith,
+      count-same differs (λ x. not (eqb (entryOf es x) (f x))) k 0 (λ x _ u. ap (λ (y : ℕ). not (eqb (entryOf es x) y)) (written-in f es 0 k x (omega arith) u (omega arith))),
+      count-none differs (length es - k) (0 + k) (λ x u _. ap not (eq-eqb _ _ (sym (written-beyond f es 0 k x u)))),
+    )
+  where
+    differs : ℕ → Bool
+    differs x = not (eqb (entryOf es x) (entryOf (written f es 0 k) x))
+
+-- bitfields: the rows of k huge frames
+bitfields-differ : (h : ℕ) (f : ℕ → ℕ) (rs : List ℕ) (k : ℕ) → k * rowsOf h ≤ length rs
+    → bitfieldsDiffer h rs (written f rs 0 (k * rowsOf h)) ≡ count (λ x. not (all (λ i. eqb (getD rs i 0) (f i)) (rowsOf h) (x * rowsOf h))) k 0
+unfolding bitfieldsDiffer
+bitfields-differ h f rs k l =
+    let most : k ≤ length rs / rowsOf h = le-div-iff-mul-le (pow-pos (h - 6)) .1 l in
+    let parts : length rs / rowsOf h ≡ k + (length rs / rowsOf h - k) = omega arith in
+    ap (λ (n : ℕ). count differs n 0) parts ∙ count-parts differs k (length rs / rowsOf h - k) 0
+    ∙ omega (
+      arith,
+      count-same differs (λ x. not (all (λ i. eqb (getD rs i 0) (f i)) (rowsOf h) (x * rowsOf h))) k 0 (λ x _ u. ap not (inside x (omega arith))),
+      count-none differs (length rs / rowsOf h - k) (0 + k) (λ x u _. ap not (beyond x (omega arith))),
+    )
+  where
+    left : List ℕ
+    left = written f rs 0 (k * rowsOf h)
+
+    differs : ℕ → Bool
+    differs x = not (all (λ i. eqb (getD rs i 0) (getD left i 0)) (rowsOf h) (x * rowsOf h))
+
+    inside : (x : ℕ) → x < k → all (λ i. eqb (getD rs i 0) (getD left i 0)) (rowsOf h) (x * rowsOf h) ≡ all (λ i. eqb (getD rs i 0) (f i)) (rowsOf h) (x * rowsOf h)
+    inside x u =
+        let ends : (x + 1) * rowsOf h ≤ k * rowsOf h = mul-le-mul-right (rowsOf h) (omega arith) in
+        all-same _ _ (rowsOf h) (x * rowsOf h) (λ i a b. ap (eqb (getD rs i 0)) (written-in f rs 0 (k * rowsOf h) i (omega arith) (omega arith) (omega arith)))
+
+    beyond : (x : ℕ) → k ≤ x → all (λ i. eqb (getD rs i 0) (getD left i 0)) (rowsOf h) (x * rowsOf h) ≡ true
+    beyond x u =
+        let starts : k * rowsOf h ≤ x * rowsOf h = mul-le-mul-right (rowsOf h) u in
+        all-of _ (rowsOf h) (x * rowsOf h) (λ i a b. eq-eqb _ _ (sym (written-beyond f rs 0 (k * rowsOf h) i (omega arith))))
+
+-- ---- two memories that agree on huge frame x give it the same share
+
+module _ {h : ℕ} (H : Huge h) (x : ℕ) (m m′ : Mem) (entry : entryOf (m′ .entries) x ≡ entryOf (m .entries) x)
+    (rows : (i : ℕ) → x * rowsOf h ≤ i → getD (m′ .rows) i 0 ≡ getD (m .rows) i 0) where
+  same-clear : clearOf h (m′ .rows) x ≡ clearOf h (m .rows) x
+  unfolding bitIs
+  same-clear = count-same (bitIs false (m′ .rows)) (bitIs false (m .rows)) (2 ^ h) (x * 2 ^ h) (λ f a _. bit f (rw (rows-frames H) at a))
+    where
+      bit : (f : ℕ) → x * (rowsOf h * 64) ≤ f → bitIs false (m′ .rows) f ≡ bitIs false (m .rows) f
+      bit f a = rw (rows (f / 64) (omega arith))
+
+  same-entry : entryAfter h m′ x ≡ entryAfter h m x
+  same-entry = rw (entry, same-clear)
+
+  same-row : (i : ℕ) → Its h x i → rowAfter h m′ i ≡ rowAfter h m i
+  same-row i w = rw (its-huge h x i w, entry, rows i (w .0))
+
+  same-entry-differs : entryDiffers h m′ x ≡ entryDiffers h m x
+  unfolding entryDiffers
+  same-entry-differs = ap not (ap₂ eqb entry same-entry)
+
+  same-rows-differ : rowsDiffer h m′ x ≡ rowsDiffer h m x
+  unfolding rowsDiffer
+  same-rows-differ = ap not (all-same _ _ (rowsOf h) (x * rowsOf h) (λ i a b. ap₂ eqb (rows i a) (same-row i (a, b))))
+
+-- ---- the loop
+
+-- what it knows before huge frame x, where k are present: those below x are recovered, the others as they were, and the totals are those that differ
+pub record MendAt (h : ℕ) (m : Mem) (k : ℕ) (rs es : List ℕ) (e b x : ℕ) : Type 0 where
+  pub inside : x ≤ k
+  pub rows-long : length rs ≡ length (m .rows)
+  pub entries-long : length es ≡ length (m .entries)
+  pub rows : rs ≡ written (rowAfter h m) (m .rows) 0 (x * rowsOf h)
+  pub entries : es ≡ written (entryAfter h m) (m .entries) 0 x
+  pub changed : e ≡ count (entryDiffers h m) x 0
+  pub cleared : b ≡ count (rowsDiffer h m) x 0
+
+module _ {h : ℕ} (m : Mem) {k : ℕ} where
+  -- before the first huge frame nothing is
+  pub mend-start : MendAt h m k (m .rows) (m .entries) 0 0 0
+  unfolding written count
+  mend-start = record { inside = omega arith; rows-long = refl; entries-long = refl; rows = none (0 * rowsOf h) (omega arith); entries = refl; changed = refl; cleared = refl }
+    where
+      none : (z : ℕ) → z ≡ 0 → m .rows ≡ written (rowAfter h m) (m .rows) 0 z
+      none z e = rw e
+
+  module _ {rs es : List ℕ} {e b x : ℕ} (at : MendAt h m k rs es e b x) where
+    -- the totals are at most the huge frames passed
+    pub totals-low : (e ≤ x) × (b ≤ x)
+    totals-low = (omega (arith, at .changed, count-le (entryDiffers h m) x 0), omega (arith, at .cleared, count-le (rowsDiffer h m) x 0))
+
+    -- a turn recovers one more
+    pub mend-more : Huge h → {r : Recovered} {rs′ es′ : List ℕ} → x < k → out r (mem rs′ es′) ≡ mendedAt h (mem rs es) x
+        → MendAt h m k rs′ es′ (e + r .entries) (b + r .bitfields) (x + 1)
+    unfolding mendedAt
+    mend-more H {r} {rs′} {es′} l q =
+        let entry : entryOf es x ≡ entryOf (m .entries) x = rw (at .entries) (written-beyond (entryAfter h m) (m .entries) 0 x x (omega arith)) in
+        let row : (i : ℕ) → x * rowsOf h ≤ i → getD rs i 0 ≡ getD (m .rows) i 0 =
+        λ i a. rw (at .rows) (written-beyond (rowAfter h m) (m .rows) 0 (x * rowsOf h) i (omega arith)) in
+        let more : (x + 1) * rowsOf h ≡ x * rowsOf h + rowsOf h = omega arith in
+        let rows-left : rs′ ≡ written (rowAfter h m) (m .rows) 0 ((x + 1) * rowsOf h) =
+        ap (λ (o : Out Recovered Mem). o .left .rows) q
+        ∙ written-same _ (rowAfter h m) rs (x * rowsOf h) (rowsOf h) (λ i a c. same-row H x m (mem rs es) entry row i (a, c))
+        ∙ rw (at .rows, more) (rw zero-add at (written-parts (rowAfter h m) (m .rows) 0 (x * rowsOf h) (rowsOf h))) in
+        let entries-left : es′ ≡ written (entryAfter h m) (m .entries) 0 (x + 1) =
+        ap (λ (o : Out Recovered Mem). o .left .entries) q
+        ∙ rw (same-entry H x m (mem rs es) entry row, at .entries) (rw zero-add at (written-more (entryAfter h m) (m .entries) 0 x)) in
+        record {
+          inside = omega arith;
+          rows-long = ap length rows-left ∙ length-written (rowAfter h m) (m .rows) 0 ((x + 1) * rowsOf h);
+          entries-long = ap length entries-left ∙ length-written (entryAfter h m) (m .entries) 0 (x + 1);
+          rows = rows-left;
+          entries = entries-left;
+          changed = counted (entryDiffers h m) (at .changed) (ap (λ (o : Out Recovered Mem). o .answer .entries) q) (same-entry-differs H x m (mem rs es) entry row);
+          cleared = counted (rowsDiffer h m) (at .cleared) (ap (λ (o : Out Recovered Mem). o .answer .bitfields) q) (same-rows-differ H x m (mem rs es) entry row);
+        }
+      where
+        -- a total, with 1 for a huge frame that differs
+        counted : (p : ℕ → Bool) {d : Bool} {total r : ℕ} → total ≡ count p x 0 → r ≡ pick d 1 0 → d ≡ p x → total + r ≡ count p (x + 1) 0
+        counted p {d} {total} {r} is one same = rw (is, one, same) (sym (rw zero-add at (count-more p x 0)))
+
+-- ---- the call
+
+module _ {h n t : ℕ} (H : Huge h) (rs es : List ℕ) (s : Sized h n t (length rs) (length es)) {last : ℕ} (last-is : last ≡ hugeOf h (n - 1)) where
+  -- the present huge frames are those up to the last
+  present-is : last + 1 ≡ ceil n (2 ^ h)
+  present-is =
+      let low : last < ceil n (2 ^ h) = lt-of-mul-lt-mul-right (2 ^ h) (omega (arith, last-present s last-is, ceil-covers n (2 ^ h) (pow-pos h))) in
+      omega (arith, ceil-least n (2 ^ h) (last + 1) (pow-pos h) (last-reaches s last-is))
+
+  -- the entry and the rows of each are lent
+  pub mend-asked : {rs′ es′ : List ℕ} {e b x : ℕ} → MendAt h (mem rs es) (last + 1) rs′ es′ e b x → x < last + 1
+      → (Huge h) × (x < length es′) × ((x + 1) * rowsOf h ≤ length rs′)
+  mend-asked {x = x} at l =
+      let below : x * 2 ^ h ≤ last * 2 ^ h = mul-le-mul-right (2 ^ h) (omega arith) in
+      (H, rw (at .entries-long) (omega (arith, s .entries, last-needed s last-is)), rw (at .rows-long) (present-rows H s x (omega (arith, last-present s last-is))))
+
+  -- past the last, all is recovered
+  pub recovers : {hindered : Bool} → hindered ≡ not (recoverable h n t (mem rs es)) → hindered ≡ false
+      → {rs′ es′ : List ℕ} {e b x : ℕ} → MendAt h (mem rs es) (last + 1) rs′ es′ e b x → last + 1 ≤ x → out (recovered 0 e b) (mem rs′ es′) ≡ recoverAll h n t (mem rs es)
+  unfolding recoverAll mended entryDiffers rowsDiffer
+  recovers q going {rs′} {es′} {e} {b} {x} at l =
+      let all-present : x ≡ ceil n (2 ^ h) = omega (arith, at .inside, present-is) in
+      let needed : x * rowsOf h ≡ rowsNeeded h n = rw all-present (mul-comm (ceil n (2 ^ h)) (rowsOf h)) in
+      let rows-left : rs′ ≡ written (rowAfter h (mem rs es)) rs 0 (rowsNeeded h n) = at .rows ∙ ap (written (rowAfter h (mem rs es)) rs 0) needed in
+      let entries-left : es′ ≡ written (entryAfter h (mem rs es)) es 0 (ceil n (2 ^ h)) = at .entries ∙ ap (written (entryAfter h (mem rs es)) es 0) all-present in
+      let lent : x ≤ length es = omega (arith, s .entries, last-needed s last-is, at .inside) in
+      let changed : e ≡ entriesDiffer es es′ = at .changed ∙ sym (ap (entriesDiffer es) (at .entries) ∙ entries-differ (entryAfter h (mem rs es)) es x lent) in
+      let cleared : b ≡ bitfieldsDiffer h rs rs′ = at .cleared ∙ sym (ap (bitfieldsDiffer h rs) (at .rows) ∙ bitfields-differ h (rowAfter h (mem rs es)) rs x (rw needed (s .rows))) in
+      rw (not-false (recoverable h n t (mem rs es)) (sym q ∙ going), changed, cleared, rows-left, entries-left)
+
+-- a huge frame damaged beyond recovery is refused with 8
+pub refuses : (h n t : ℕ) (rs es : List ℕ) {hindered : Bool} → hindered ≡ not (recoverable h n t (mem rs es)) → hindered ≡ true
+    → out (recovered 8 0 0) (mem rs es) ≡ recoverAll h n t (mem rs es)
+unfolding recoverAll
+refuses h n t rs es q stopped = rw (not-true (recoverable h n t (mem rs es)) (sym q ∙ stopped))

@@ -1,0 +1,83 @@
+-- The counts of a tree's room, order by order, as the loops make them. Assumes nothing.
+use mathlib.Core.Path.{_≡_, sym, ap, _∙_}
+use mathlib.Core.Bool.{Bool, true, false}
+use mathlib.Core.List.{List}
+use Prim.Native.Nat.{ℕ, _+_, _-_, _*_, _/_, _^_, _≤_, _<_}
+use native.Mathlib.Nat.{zero-add, add-zero, mul-le-mul-right, mul-div-cancel}
+use native.Mathlib.Omega.{arith}
+use lib.ListN.{length, replicate, length-replicate}
+use lib.Dec.{eqb}
+use lib.Pow.{pow-pos, shr-le}
+use borrow.Author.Tests.{lt-ltb, le-ltb, le-leb, lt-leb}
+use Rattle.base.specs.Walk.{pick, count, written}
+use Rattle.base.proofs.Walks.{count-more}
+use Rattle.base.proofs.Sums.{sum-more}
+use Rattle.base.proofs.Sizes.{pow-divides}
+use Rattle.shape.specs.Shape.{mark, treeLog, isTree}
+use Rattle.shape.specs.State.{entryOf, freeOf}
+use Rattle.shape.proofs.Laws.{tree-pow}
+use Rattle.huge.specs.Huge.{entriesAre}
+use Rattle.room.specs.Room.{treeAt, singles, roomAt, orders, roomOf}
+
+-- ---- below the huge order
+
+-- an entry has at most as many blocks as its number says
+pub blocks-most : (e o : ℕ) {free : ℕ} → free ≡ freeOf e → free / 2 ^ o ≤ e
+blocks-most e o {free} q = omega (arith, shr-le free o, free-most (eqb e mark))
+  where
+    free-most : (b : Bool) → pick b 0 e ≤ e
+    free-most true = omega arith
+    free-most false = omega arith
+
+-- one entry more
+pub single-more : (es : List ℕ) (at o i : ℕ) {blocks free : ℕ} → blocks ≡ singles es i at o → free ≡ freeOf (entryOf es (at + i))
+    → blocks + free / 2 ^ o ≡ singles es (i + 1) at o
+single-more es at o i e f = rw (e, f) (sym (sum-more _ i at))
+
+-- ---- from the huge order on
+
+-- a group before the c-th ends among the entries of c groups
+pub group-lent : (at g c el first j : ℕ) → at + c * g ≤ el → j < c → first ≡ at + j * g → first + g ≤ el
+group-lent at g c el first j l h e = omega (arith, mul-le-mul-right g h)
+
+-- one group more, which is counted where it is free
+module _ (p : ℕ → Bool) (j : ℕ) {blocks : ℕ} (before : blocks ≡ count p j 0) where
+  pub group-free : p j ≡ true → blocks + 1 ≡ count p (j + 1) 0
+  group-free e = rw before (sym (rw (zero-add, e) at (count-more p j 0)))
+
+  pub group-held : p j ≡ false → blocks ≡ count p (j + 1) 0
+  group-held e = rw before (sym (rw (zero-add, e, add-zero) at (count-more p j 0)))
+
+-- ---- an order
+
+module _ (h t : ℕ) {k : ℕ} (es : List ℕ) (at o : ℕ) (tree : isTree t ≡ true) (k-is : k ≡ treeLog t) where
+  pub at-singles : o < h → {r : ℕ} → r ≡ singles es t at o → r ≡ roomAt h t es at o
+  unfolding roomAt
+  at-singles l e = rw (lt-ltb o h l) e
+
+  -- up to the top order c groups of g entries fill the tree
+  module _ (low : h ≤ o) (top : o ≤ h + k) {g c : ℕ} (g-is : g ≡ 2 ^ (o - h)) (c-is : c ≡ 2 ^ (h + k - o)) where
+    pub groups-fill : c * g ≡ t
+    groups-fill =
+        let e : h + k - o ≡ k - (o - h) = omega arith in
+        rw (c-is, g-is, e) (pow-divides (o - h) k (omega arith) ∙ ap (λ (i : ℕ). 2 ^ i) k-is ∙ tree-pow t tree)
+
+    pub at-groups : {r : ℕ} → r ≡ count (λ j. entriesAre (2 ^ h) es (at + j * g) g) c 0 → r ≡ roomAt h t es at o
+    unfolding roomAt
+    at-groups e =
+        let all : t / g ≡ c = rw (← groups-fill) (mul-div-cancel c (rw g-is (pow-pos (o - h)))) in
+        rw (le-ltb o h low, ← k-is, le-leb o (h + k) top, ← g-is, all) e
+
+  pub at-none : h ≤ o → h + k < o → 0 ≡ roomAt h t es at o
+  unfolding roomAt
+  at-none low top = rw (le-ltb o h low, ← k-is, lt-leb o (h + k) top)
+
+-- ---- all orders
+
+-- counts that were 0, filled in up to their end
+pub room-filled : (h t : ℕ) (es : List ℕ) (f : ℕ) {before after : List ℕ} {at o : ℕ} → before ≡ replicate (orders h) 0 → at ≡ treeAt h t f
+    → after ≡ written (roomAt h t es at) before 0 o → o ≡ length before → after ≡ roomOf h t es f
+unfolding roomOf
+room-filled h t es f {o = o} z a e l =
+    let all : o ≡ orders h = l ∙ ap length z ∙ length-replicate (orders h) 0 in
+    rw (a, z, all) at e

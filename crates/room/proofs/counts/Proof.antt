@@ -1,0 +1,102 @@
+-- `room::counts` meets its contract. The loop's invariant: the counts of the orders before this one are filled in, and the others are 0. Assumes nothing.
+use mathlib.Core.Path.{_≡_, refl, _∙_}
+use Prim.Native.Nat.{_-_, _≤_}
+use native.Mathlib.Nat.{zero-add}
+use native.Mathlib.Omega.{arith}
+use borrow.Author.Needs.{needs}
+use lib.ListN.{length, length-set}
+use Rattle.base.specs.Walk.{written}
+use Rattle.base.proofs.Written.{written-more}
+use Rattle.room.specs.Room as spec
+use Rattle.room.proofs.Rooms.{room-filled}
+use Rattle.room.proofs.Trees.{log-low, tree-at, tree-word, tree-lent}
+use Rattle.room.proofs.counts.Statement.{statement}
+use Rattle.room.proofs.counts.Tie as tie
+
+abbrev Inv-loop : tie.InvT-loop
+Inv-loop h t entries frame counts₀ k at order₀ counts order =
+    (order ≤ length counts₀) × (length counts ≡ length counts₀) × (counts ≡ written (spec.roomAt h t entries at) counts₀ 0 order)
+
+abbrev μ-loop : tie.MeasureT-loop
+μ-loop h t entries frame counts₀ k at order₀ counts order = length counts₀ - order
+
+tree-log-requires : tie.Need-tree-log-requires Inv-loop μ-loop
+tree-log-requires c κs = c .before .before .pre .1 .2 .sized .tree
+
+frame-tree-requires : tie.Need-frame-tree-requires Inv-loop μ-loop
+frame-tree-requires c κs =
+    let pre = c .before .before .before .pre in
+    (pre .0, log-low (pre .1 .2) (c .tree-log .ensures) refl)
+
+tree-huge-requires : tie.Need-tree-huge-requires Inv-loop μ-loop
+tree-huge-requires c κs =
+    let pre = c .before .before .before .before .pre in
+    let k = c .before .tree-log .ensures in
+    (log-low (pre .1 .2) k refl, tree-word (pre .1 .2) k (c .frame-tree .ensures))
+
+loop-holds : tie.Need-loop-holds Inv-loop μ-loop
+unfolding written
+loop-holds c = (omega arith, refl, refl)
+
+at-order-requires : tie.Need-at-order-requires Inv-loop μ-loop
+at-order-requires c κs =
+    let a = c .before .before in
+    let k = a .before .before in
+    let pre = k .before .before .before .pre in
+    (pre .0, pre .1 .2 .sized .tree, k .tree-log .ensures, tree-lent (pre .1 .2) (k .tree-log .ensures) (a .before .frame-tree .ensures) (pre .0) (a .tree-huge .ensures))
+
+mul-counts : tie.Need-mul-counts Inv-loop μ-loop
+mul-counts c = search needs
+
+slice-write-counts : tie.Need-slice-write-counts Inv-loop μ-loop
+slice-write-counts c = search needs
+
+add-order : tie.Need-add-order Inv-loop μ-loop
+add-order c = search needs
+
+loop-less : tie.Need-loop-less Inv-loop μ-loop
+loop-less c = search needs
+
+loop-again : tie.Need-loop-again Inv-loop μ-loop
+loop-again c =
+    let a = c .before .before in
+    let at = a .loop in
+    let s = a .before .before .before .before .before .before .args in (
+      omega arith,
+      simp length-set (at .inv .1),
+      rw (at .inv .2, c .at-order .ensures)
+          (rw zero-add at (written-more (spec.roomAt (s .h) (s .t) (s .entries .now) (a .before .tree-huge .result)) (s .counts .now) 0 (at .order))),
+    )
+
+same-length : tie.Need-same-length Inv-loop μ-loop
+same-length c = search needs
+
+returns : tie.Need-returns Inv-loop μ-loop
+returns c =
+    let a = c .before in
+    let b = a .before in
+    let k = b .before .before in
+    let pre = k .before .before .before .pre in
+    let s = k .before .before .before .args in
+    let first : b .tree-huge .result ≡ spec.treeAt (s .h) (s .t) (s .frame) =
+    b .tree-huge .ensures ∙ tree-at (pre .1 .2) (k .tree-log .ensures) (b .before .frame-tree .ensures) in
+    room-filled _ _ _ _ (pre .2) first (a .loop .inv .2) (omega arith)
+
+pub counts-spec : {M : Type 1} → statement M
+counts-spec =
+    tie.close
+    (tie.spec
+    Inv-loop
+    μ-loop
+    tree-log-requires
+    frame-tree-requires
+    tree-huge-requires
+    loop-holds
+    at-order-requires
+    mul-counts
+    slice-write-counts
+    add-order
+    loop-less
+    loop-again
+    same-length
+    returns)

@@ -1,0 +1,56 @@
+-- `stats::free_trees` meets its contract. The loop's invariant: the sum counts the free trees below y. Assumes nothing.
+use mathlib.Core.Logic.{⊎-elim}
+use mathlib.Core.Path.{_∙_, sym}
+use Prim.Native.Nat.{_+_, _*_, _-_, _≤_}
+use native.Mathlib.Nat.{mul-le-mul-right}
+use native.Mathlib.Omega.{arith}
+use lib.Dec.{eqb}
+use borrow.Author.Needs.{needs}
+use borrow.Author.Tests.{eq-eqb, ne-eqb}
+use Rattle.stats.specs.Stats.{freeIn}
+use Rattle.stats.proofs.Counts.{CountAt, count-start, count-hit, count-miss, count-end}
+use Rattle.stats.proofs.free_trees.Statement.{statement}
+use Rattle.stats.proofs.free_trees.Tie as tie
+
+abbrev Inv-loop : tie.InvT-loop
+Inv-loop entries t frames k sum₀ y₀ sum y = CountAt (λ i. eqb (freeIn entries t (i * t)) frames) k y sum
+
+abbrev μ-loop : tie.MeasureT-loop
+μ-loop entries t frames k sum₀ y₀ sum y = k - y
+
+loop-holds : tie.Need-loop-holds Inv-loop μ-loop
+loop-holds c = count-start
+
+-- the next tree ends within those of the k trees
+ends : (a : tie.In-loop Inv-loop μ-loop) → (a .before .loop .y + 1) * a .before .before .before .args .t ≤ a .before .before .before .args .k * a .before .before .before .args .t
+ends a = mul-le-mul-right (a .before .before .before .args .t) (omega (arith, a .loop-test .taken))
+
+mul-free-in : tie.Need-mul-free-in Inv-loop μ-loop
+mul-free-in c = omega (arith, ends c, c .before .before .before .pre .0)
+
+free-in-requires : tie.Need-free-in-requires Inv-loop μ-loop
+free-in-requires c κs = (omega (arith, ends c, c .before .before .before .pre .0), omega (arith, c .before .before .before .pre .1))
+
+add-sum : tie.Need-add-sum Inv-loop μ-loop
+add-sum c = omega (arith, c .before .before .before .loop .inv .low)
+
+add-y : tie.Need-add-y Inv-loop μ-loop
+add-y c = search needs
+
+loop-less : tie.Need-loop-less Inv-loop μ-loop
+loop-less c = search needs
+
+loop-again : tie.Need-loop-again Inv-loop μ-loop
+loop-again c =
+    let k = c .before .before in
+    let e = c .before .free-in .ensures in
+    ⊎-elim
+    (λ w. rw (w .1) (count-hit (k .before .loop .inv) (k .loop-test .taken) (eq-eqb _ _ (sym e ∙ w .0 .taken))))
+    (λ w. rw (w .1) (count-miss (k .before .loop .inv) (k .loop-test .taken) (ne-eqb _ _ (λ z. w .0 .left (e ∙ z)))))
+    (c .if1 .came)
+
+returns : tie.Need-returns Inv-loop μ-loop
+returns c = count-end (c .before .loop .inv) (c .loop-test .left)
+
+pub free-trees-spec : {M : Type 1} → statement M
+free-trees-spec = tie.close (tie.spec Inv-loop μ-loop loop-holds mul-free-in free-in-requires add-sum add-y loop-less loop-again returns)

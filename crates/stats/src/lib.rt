@@ -1,0 +1,190 @@
+// Statistics over the entries: of all trees, of one tree, of one huge frame, and of one frame.
+ghost use mathlib.Core.Path.{_≡_};
+ghost use mathlib.Core.Bool.{true, false};
+ghost use mathlib.Core.List.{List};
+ghost use Prim.Native.Nat.{ℕ, _+_, _*_, _≤_, _<_};
+ghost use lib.Dec.{eqb};
+ghost use lib.ListN.{length};
+ghost use Rattle.base.specs.Walk.{count};
+ghost use Rattle.base.specs.Size.{Huge};
+ghost use Rattle.base.specs.Bits.{bitIs};
+ghost use Rattle.shape.specs.Shape.{rowOf, hugeOf, treeOf, isTree};
+ghost use Rattle.shape.specs.Refuse.{Sized, Framed};
+ghost use Rattle.shape.specs.State.{mem, entryOf, freeOf};
+ghost use Rattle.stats.specs.Stats as spec;
+use shape::Stats;
+
+// An entry's free count. It and what is summed of it are 32 bits wide, so that the compiler takes several entries at a time.
+fn free(entry: u16) -> u32
+    ensures { λ r. ⌜ r ≡ freeOf entry ⌝ }
+{
+    if entry == shape::MARK {
+        0
+    } else {
+        entry as u32
+    }
+}
+
+// The free frames of the k entries from at on.
+fn free_in(entries: &[u16], k: usize, at: usize) -> usize
+    requires { ⌜ (at + k ≤ length (now entries)) × (k < 65536) ⌝ }
+    ensures { λ r. ⌜ r ≡ spec.freeIn (now (entries .entry)) k at ⌝ }
+{
+    let mut sum: u32 = 0;
+    let mut i = 0;
+    while i < k {
+        sum += free(entries[at + i]);
+        i += 1;
+    }
+    sum as usize
+}
+
+// Their free huge frames, where a count above 2^h counts as often as 2^h goes into it.
+fn huge_in(h: usize, entries: &[u16], k: usize, at: usize) -> usize
+    requires { ⌜ (Huge h) × (at + k ≤ length (now entries)) × (k < 65536) ⌝ }
+    ensures { λ r. ⌜ r ≡ spec.hugeIn h (now (entries .entry)) k at ⌝ }
+{
+    let mut sum: u32 = 0;
+    let mut i = 0;
+    while i < k {
+        sum += free(entries[at + i]) >> h;
+        i += 1;
+    }
+    sum as usize
+}
+
+// How many of the first k entries are v. The count is 16 bits wide for the same reason.
+fn count_of(entries: &[u16], v: u16, k: usize) -> usize
+    requires { ⌜ (k ≤ length (now entries)) × (k < 65536) ⌝ }
+    ensures { λ r. ⌜ r ≡ count (λ x. eqb (entryOf (now (entries .entry)) x) v) k 0 ⌝ }
+{
+    let mut sum: u16 = 0;
+    let mut x = 0;
+    while x < k {
+        if entries[x] == v {
+            sum += 1;
+        }
+        x += 1;
+    }
+    sum as usize
+}
+
+// How many of the first k trees have as many free frames as a tree has.
+fn free_trees(entries: &[u16], t: usize, frames: usize, k: usize) -> usize
+    requires { ⌜ (k * t ≤ length (now entries)) × (t ≤ 512) ⌝ }
+    ensures { λ r. ⌜ r ≡ count (λ y. eqb (spec.freeIn (now (entries .entry)) t (y * t)) frames) k 0 ⌝ }
+{
+    let mut sum: usize = 0;
+    let mut y = 0;
+    while y < k {
+        if free_in(entries, t, y * t) == frames {
+            sum += 1;
+        }
+        y += 1;
+    }
+    sum
+}
+
+// Free frames, huge frames and trees of all entries. A tree of one huge frame is free where that is: none is summed.
+pub fn all(h: usize, n: usize, t: usize, entries: &[u16]) -> Stats
+    requires { ⌜ (Huge h) × ((rl : ℕ) × Sized h n t rl (length (now entries))) ⌝ }
+    ensures { λ r. ⌜ r ≡ spec.statsAll h n t (now (entries .entry)) ⌝ }
+{
+    let log = shape::tree_log(t);
+    let needed = shape::entries_needed(h, log, n);
+    let free = free_in(entries, needed, 0);
+    let huge = count_of(entries, 1 << h, needed);
+    let mut trees = huge;
+    if t != 1 {
+        trees = free_trees(
+            entries,
+            t,
+            base::size(h + log),
+            shape::huge_tree(log, needed),
+        );
+    }
+    Stats {
+        code: 0,
+        free_frames: free,
+        free_huge: huge,
+        free_trees: trees,
+    }
+}
+
+// The free count of a frame's huge frame.
+fn free_of(h: usize, entries: &[u16], frame: usize) -> usize
+    requires { ⌜ (Huge h) × (hugeOf h frame < length (now entries)) ⌝ }
+    ensures { λ r. ⌜ r ≡ freeOf (entryOf (now (entries .entry)) (hugeOf h frame)) ⌝ }
+{
+    free(entries[shape::frame_huge(h, frame)]) as usize
+}
+
+// Whether a frame's bit is clear.
+fn is_clear(rows: &[u64], frame: usize) -> bool
+    requires { ⌜ rowOf frame < length (now rows) ⌝ }
+    ensures { λ r. ⌜ r ≡ bitIs false (now (rows .entry)) frame ⌝ }
+{
+    let row = rows[shape::frame_row(frame)];
+    (row >> shape::frame_bit(frame)) % 2 == 0
+}
+
+// At a frame alone.
+fn at_frame(h: usize, rows: &[u64], entries: &[u16], frame: usize) -> Stats
+    requires { ⌜ (Huge h) × (hugeOf h frame < length (now entries)) × (rowOf frame < length (now rows)) ⌝ }
+    ensures { λ r. ⌜ r ≡ spec.atFrame h (mem (now (rows .entry)) (now (entries .entry))) frame ⌝ }
+{
+    let mut free: usize = 0;
+    if free_of(h, entries, frame) > 0 && is_clear(rows, frame) {
+        free = 1;
+    }
+    Stats {
+        code: 0,
+        free_frames: free,
+        free_huge: 0,
+        free_trees: 0,
+    }
+}
+
+// At a frame's tree, where no row is looked at.
+fn at_tree(h: usize, t: usize, entries: &[u16], frame: usize) -> Stats
+    requires { ⌜ (Huge h) × (isTree t ≡ true) × ((treeOf h t frame + 1) * t ≤ length (now entries)) ⌝ }
+    ensures { λ r. ⌜ ((rows : List ℕ) → r ≡ spec.atTree h t (mem rows (now (entries .entry))) frame) ⌝ }
+{
+    let log = shape::tree_log(t);
+    let first = shape::tree_huge(log, shape::frame_tree(h, log, frame));
+    let free = free_in(entries, t, first);
+    Stats {
+        code: 0,
+        free_frames: free,
+        free_huge: huge_in(h, entries, t, first),
+        free_trees: free >> (h + log),
+    }
+}
+
+// The same at a frame, its huge frame or its tree, as the order says.
+pub fn at(h: usize, t: usize, rows: &[u64], entries: &[u16], frame: usize, order: usize) -> Stats
+    requires { ⌜ (Huge h) × ((n : ℕ) × Framed h n t (length (now rows)) (length (now entries)) frame) ⌝ }
+    ensures { λ r. ⌜ r ≡ spec.atOrder h t (mem (now (rows .entry)) (now (entries .entry))) frame order ⌝ }
+{
+    if order == 0 {
+        return at_frame(h, rows, entries, frame);
+    }
+    if order == h {
+        let free = free_of(h, entries, frame);
+        return Stats {
+            code: 0,
+            free_frames: free,
+            free_huge: free >> h,
+            free_trees: 0,
+        };
+    }
+    if order == shape::top_order(h, t) {
+        return at_tree(h, t, entries, frame);
+    }
+    Stats {
+        code: 0,
+        free_frames: 0,
+        free_huge: 0,
+        free_trees: 0,
+    }
+}
