@@ -12,18 +12,19 @@ mod library;
 #[allow(dead_code)]
 #[path = "../oracle/random.rs"]
 mod random;
+mod state;
 
 use std::hint::black_box;
 use std::time::Instant;
 
 use library::Library;
 use random::Random;
+use state::{Keeper, Kept, State};
 
 const TREES: usize = 16;
 /// Gets in a pass, each with a start row of its own.
 const GETS: usize = 1024;
 const PASSES: usize = 1000;
-const MARK: u16 = 65535;
 
 unsafe extern "C" {
     fn rb_get(
@@ -97,14 +98,9 @@ impl Side for Ours {
     }
 }
 
-/// Stands for what export.rs keeps.
-enum Kept {}
-
 /// The Rust in the build of one tree size. The names and types are those of export.rs.
 struct Rust {
-    t: usize,
-    keep: unsafe extern "C" fn(usize) -> *mut Kept,
-    copy: unsafe extern "C" fn(*mut Kept, *mut u64, *mut u16, u32),
+    keeper: Keeper,
     get: unsafe extern "C" fn(*mut Kept, usize, usize, &mut usize) -> u32,
     put: unsafe extern "C" fn(*mut Kept, usize, usize) -> u32,
 }
@@ -113,11 +109,8 @@ impl Rust {
     fn load(path: &str) -> Rust {
         let library = Library::load(path);
         unsafe {
-            let tree_huge: extern "C" fn() -> usize = library.function("tree_huge");
             Rust {
-                t: tree_huge(),
-                keep: library.function("keep"),
-                copy: library.function("kept_copy"),
+                keeper: Keeper::of(&library),
                 get: library.function("kept_get"),
                 put: library.function("kept_put"),
             }
@@ -142,69 +135,22 @@ impl Side for OnKept<'_> {
     }
 }
 
-/// A consistent state of [`TREES`] whole trees.
-#[derive(Clone, PartialEq)]
-struct State {
-    n: usize,
-    t: usize,
-    rows: Vec<u64>,
-    entries: Vec<u16>,
+/// A state by its rows; each entry counts what is clear.
+fn of_rows(t: usize, row: impl FnMut() -> u64) -> State {
+    let mut state = State::fresh(t, TREES);
+    state.rows.fill_with(row);
+    state.count();
+    state
 }
 
-impl State {
-    fn fresh(t: usize) -> State {
-        let huge = TREES * t;
-        State { n: 512 * huge, t, rows: vec![0; 8 * huge], entries: vec![512; huge] }
+/// Full but for one frame in each huge frame.
+fn one_free(t: usize, random: &mut Random) -> State {
+    let mut state = of_rows(t, || u64::MAX);
+    for huge in 0..TREES * t {
+        state.rows[8 * huge + random.below(8) as usize] ^= 1 << random.below(64);
     }
-
-    /// A state by its rows; each entry counts what is clear.
-    fn of_rows(t: usize, row: impl FnMut() -> u64) -> State {
-        let mut state = State::fresh(t);
-        state.rows.fill_with(row);
-        state.count();
-        state
-    }
-
-    fn count(&mut self) {
-        for (entry, rows) in self.entries.iter_mut().zip(self.rows.chunks(8)) {
-            if *entry != MARK {
-                *entry = rows.iter().map(|row| row.count_zeros() as u16).sum();
-            }
-        }
-    }
-
-    /// Half full: of eight trees one is free and one held, and six are split.
-    fn half(t: usize, random: &mut Random) -> State {
-        let mut state = State::fresh(t);
-        (0..TREES).for_each(|tree| state.treat(512 * t * tree, 512 * t, tree as u64 % 8, random));
-        state.count();
-        state
-    }
-
-    /// Leaves a block free (0), holds it (1) or splits it, and treats its halves by chance.
-    fn treat(&mut self, frame: usize, frames: usize, treatment: u64, random: &mut Random) {
-        match treatment {
-            0 => {}
-            1 if frames >= 512 => self.entries[frame / 512..][..frames / 512].fill(MARK),
-            1 => (frame..frame + frames).for_each(|frame| self.rows[frame / 64] |= 1 << (frame % 64)),
-            _ => {
-                let half = frames / 2;
-                let treatments = if half == 1 { 2 } else { 8 };
-                self.treat(frame, half, random.below(treatments), random);
-                self.treat(frame + half, half, random.below(treatments), random);
-            }
-        }
-    }
-
-    /// Full but for one frame in each huge frame.
-    fn one_free(t: usize, random: &mut Random) -> State {
-        let mut state = State::of_rows(t, || u64::MAX);
-        for huge in 0..TREES * t {
-            state.rows[8 * huge + random.below(8) as usize] ^= 1 << random.below(64);
-        }
-        state.count();
-        state
-    }
+    state.count();
+    state
 }
 
 /// A pass over the start rows: each with so many gets, then the puts of what they got.
@@ -229,13 +175,7 @@ fn line(name: &str, rust: &Rust, state: &State, order: usize, together: usize, r
     let rows: Vec<usize> = (0..GETS).map(|_| random.below(n as u64 / 64) as usize).collect();
     let mut ours =
         Ours { state: state.clone(), get: black_box(rb_get as Get), put: black_box(rb_put as Put) };
-    let mut copy = state.clone();
-    let kept = unsafe {
-        let kept = (rust.keep)(n);
-        (rust.copy)(kept, copy.rows.as_mut_ptr(), copy.entries.as_mut_ptr(), 0);
-        kept
-    };
-    let mut theirs = OnKept { rust, kept };
+    let mut theirs = OnKept { rust, kept: rust.keeper.keep(state) };
 
     // Both are to do the same work, and the share of gets that find a block is part of the table.
     let mut done = 0;
@@ -257,8 +197,8 @@ fn line(name: &str, rust: &Rust, state: &State, order: usize, together: usize, r
         pass(&mut theirs, &rows, order, together);
         least[1] = least[1].min(start.elapsed().as_nanos());
     }
-    unsafe { (rust.copy)(kept, copy.rows.as_mut_ptr(), copy.entries.as_mut_ptr(), 1) };
-    assert!(ours.state == *state && copy == *state, "what was got was not put back");
+    let kept = rust.keeper.read(theirs.kept, state);
+    assert!(ours.state == *state && kept == *state, "what was got was not put back");
 
     let [ours, rust] = least.map(|time| time as f64 / GETS as f64);
     println!(
@@ -274,18 +214,21 @@ fn main() {
     println!("|---|---|---|---|---|---|---|");
     for path in std::env::args().skip(1) {
         let rust = Rust::load(&path);
-        let t = rust.t;
+        let t = rust.keeper.t;
         // Of a crowded state one frame in sixteen is free.
-        let crowded = State::of_rows(t, || (0..3).fold(random.word(), |row, _| row | random.word()));
-        let states =
-            [("fresh", State::fresh(t)), ("half full", State::half(t, &mut random)), ("crowded", crowded)];
+        let crowded = of_rows(t, || (0..3).fold(random.word(), |row, _| row | random.word()));
+        let states = [
+            ("fresh", State::fresh(t, TREES)),
+            ("half full", State::half(t, TREES, &mut random)),
+            ("crowded", crowded),
+        ];
         for (name, state) in &states {
             for order in [0, 3, 6, 7, 9, 9 + t.ilog2() as usize] {
                 line(name, &rust, state, order, 1, &mut random);
             }
         }
         if t == 32 {
-            let state = State::one_free(t, &mut random);
+            let state = one_free(t, &mut random);
             line("one frame free in each huge frame", &rust, &state, 0, 1, &mut random);
             line("the same, 32 gets and then 32 puts", &rust, &state, 0, 32, &mut random);
         }

@@ -335,3 +335,32 @@ pub unsafe extern "C" fn oracle_kept_get(
 pub unsafe extern "C" fn oracle_kept_put(kept: &Kept, frame: usize, order: usize) -> u32 {
     guarded(|| answer(kept.lower.put(FrameId(frame), order).map(|()| 0), &mut 0))
 }
+
+#[unsafe(no_mangle)]
+pub unsafe extern "C" fn oracle_kept_stats(kept: &Kept, out: &mut [usize; 3]) -> u32 {
+    guarded(|| {
+        *out = numbers(kept.lower.stats());
+        0
+    })
+}
+
+#[unsafe(no_mangle)]
+pub unsafe extern "C" fn oracle_kept_stats_at(
+    kept: &Kept,
+    frame: usize,
+    order: usize,
+    out: &mut [usize; 3],
+) -> u32 {
+    guarded(|| {
+        *out = numbers(kept.lower.stats_at(FrameId(frame), order));
+        0
+    })
+}
+
+#[unsafe(no_mangle)]
+pub unsafe extern "C" fn oracle_kept_recover(kept: &Kept) -> u32 {
+    guarded(|| {
+        kept.lower.recover();
+        0
+    })
+}

@@ -12,22 +12,28 @@ mod process;
 mod progress;
 #[path = "../random.rs"]
 mod random;
+mod room;
 mod rust;
 mod sides;
+mod staff_model;
+mod states;
 mod tally;
 
 use std::mem::take;
 use std::process::exit;
 
-use inputs::{MOST, Run, TREES};
+use inputs::Run;
 use ours::Worker;
 use progress::Progress;
 use random::Random;
+use room::Room;
 use rust::Rust;
-use sides::{Call, Outcome, Room, What, by_model, by_rust};
+use sides::{Call, Outcome, What, by_model, by_rust};
+use states::{MOST, TREES};
 use tally::Tally;
 
-/// Calls in a run, after those it begins with.
+/// Calls in a run, after those it begins with: so many times one of the kernel's and, mostly, one of its
+/// staff's.
 const RUN: usize = 64;
 
 /// A room, and the calls on it with what they do by the model. What a kept call left is there for the next.
@@ -86,8 +92,8 @@ impl Comparison {
         for Case { mut room, calls } in cases {
             for (call, keep, model) in calls {
                 let ours = answers.next();
-                self.judge(&call, &room, &ours, &model);
-                self.tally.add(&call, &ours);
+                let both = self.judge(&call, &room, &ours, &model);
+                self.tally.add(&call, &mut room, &ours, both);
                 if keep {
                     room.change(&model.changes);
                 }
@@ -95,26 +101,25 @@ impl Comparison {
         }
     }
 
-    /// Holds our outcome to the model's, and both to the Rust's wherever the Rust has one.
-    fn judge(&self, call: &Call, before: &Room, ours: &Outcome, model: &Outcome) {
-        if model.code != 0 && model.code != 7 {
-            if ours != model {
-                differ(call, before, &[("ours", ours), ("document 01", model)]);
-            }
-            return;
+    /// Holds our outcome to the model's, and both to the Rust's wherever the Rust has one, as is handed back.
+    fn judge(&self, call: &Call, before: &Room, ours: &Outcome, model: &Outcome) -> bool {
+        let rust = by_rust(&self.rust, call, before, model);
+        let both = rust.is_some();
+        let mut sides = vec![("ours", ours.clone()), ("document 01", model.clone())];
+        sides.extend(rust.map(|rust| ("the Rust", rust)));
+        if call.what == What::Recover {
+            let numbers = before.differing(&ours.changes).to_vec();
+            sides.push(("what differs", Outcome { numbers, ..ours.clone() }));
         }
-        let rust = self.rust.iter().find(|rust| rust.t == call.t).expect("a build for each tree size");
-        let mut rust = by_rust(rust, call, before);
-        // The Rust counts no probes.
-        rust.numbers[1] = model.numbers[1];
-        if ours != model || rust != *model {
-            differ(call, before, &[("ours", ours), ("document 01", model), ("the Rust", &rust)]);
+        if sides.iter().any(|(_, outcome)| outcome != model) {
+            differ(call, before, &sides);
         }
+        both
     }
 }
 
 /// Prints what it takes to see the difference again, and ends the run.
-fn differ(call: &Call, before: &Room, sides: &[(&str, &Outcome)]) -> ! {
+fn differ(call: &Call, before: &Room, sides: &[(&str, Outcome)]) -> ! {
     println!("lower: a difference in {call}");
     println!("  before:\n    {}", before.print(call));
     for (name, Outcome { code, numbers, changes }) in sides {
@@ -129,7 +134,49 @@ fn follow(it: &mut Comparison, run: &mut Run, random: &mut Random) {
         let call = run.next(random);
         let outcome = it.call(call, true);
         run.saw(&call, &outcome);
+        if random.below(4) > 0 {
+            inspect(it, run, random);
+        }
     }
+}
+
+/// Makes a call of the staff's. What a recover mended stays so one time in eight, and is clean then.
+fn inspect(it: &mut Comparison, run: &Run, random: &mut Random) {
+    let call = run.staff(random);
+    let recover = call.what == What::Recover;
+    let keep = !recover || random.below(8) == 0;
+    let outcome = it.call(call, keep);
+    if run.consistent && (recover || call.what == What::Audit) {
+        assert!(outcome.numbers == [0, 0], "a fault in a consistent state: {call}");
+    }
+    if recover && keep && outcome.code == 0 {
+        demand(it, call.to(What::Audit), 0, [0, 0]);
+        demand(it, call, 0, [0, 0]);
+    }
+}
+
+/// Makes a call of which it is known beforehand what it answers.
+fn demand(it: &mut Comparison, call: Call, code: u64, numbers: [u64; 2]) {
+    let outcome = it.call(call, true);
+    assert!(outcome.code == code && outcome.numbers == numbers, "{call}: not {code} {numbers:?}");
+}
+
+/// The calls of the staff on a state with some faults: the audit finds the first, and a recover mends them
+/// all, or refuses.
+fn mend(it: &mut Comparison, n: u64, t: u64, reasons: &[u64], random: &mut Random) {
+    let Some((room, faults)) = states::faulty(n, t, reasons, random) else { return };
+    it.state(room);
+    for [huge, _] in faults.iter().chain([&[0, 0]]) {
+        inputs::staff(n, t, *huge, random).into_iter().for_each(|call| drop(it.call(call, false)));
+    }
+    let audit = inputs::lending(n, t, 0, 0).to(What::Audit);
+    let first = faults.iter().min().copied().unwrap_or_default();
+    demand(it, audit, 0, first);
+    let of = |reason: u64| faults.iter().filter(|fault| fault[1] == reason).count() as u64;
+    let mended = of(2) + of(4) == faults.len() as u64;
+    let (code, changed, left) = if mended { (0, [of(4), of(2)], [0, 0]) } else { (8, [0, 0], first) };
+    demand(it, audit.to(What::Recover), code, changed);
+    demand(it, audit, 0, left);
 }
 
 fn main() {
@@ -151,7 +198,7 @@ fn main() {
     // Each named number of frames from both starts; the largest, whose states are slow, from one.
     for t in TREES {
         let named =
-            inputs::named_frames(t).into_iter().flat_map(|n| [(n, What::FreeAll), (n, What::ReserveAll)]);
+            states::named_frames(t).into_iter().flat_map(|n| [(n, What::FreeAll), (n, What::ReserveAll)]);
         let largest = [(MOST, What::FreeAll), (MOST - 1, What::ReserveAll)];
         for (n, start) in named.chain(largest) {
             let (room, mut run, start) = Run::from_start(n, t, start, &mut random);
@@ -164,10 +211,13 @@ fn main() {
             it.state(room);
             calls.into_iter().for_each(|call| drop(it.call(call, false)));
         }
+        for n in states::named_frames(t).into_iter().chain([MOST - 1, MOST]) {
+            states::FAULTS.iter().for_each(|reasons| mend(&mut it, n, t, reasons, &mut random));
+        }
     }
     for done in 0..runs {
         let t = TREES[done as usize % TREES.len()];
-        let n = inputs::frames(t, &mut random);
+        let n = states::frames(t, &mut random);
         let (room, mut run) = Run::on_state(n, t, &mut random);
         it.state(room);
         follow(&mut it, &mut run, &mut random);
@@ -175,7 +225,7 @@ fn main() {
     }
     for done in 0..edges {
         let t = TREES[done as usize % TREES.len()];
-        let n = inputs::frames(t, &mut random);
+        let n = states::frames(t, &mut random);
         let (room, _) = Run::on_state(n, t, &mut random);
         it.state(room);
         for call in inputs::every_edge(n, t, &mut random) {
@@ -188,9 +238,10 @@ fn main() {
     it.ours.end();
 
     it.tally.demand_all();
-    let [calls, both, refusals] = it.tally.figures();
+    let [calls, staff, both, refusals] = it.tally.figures();
     println!(
-        "lower: {} states, {calls} calls, {both} of them answered by the Rust too, {refusals} refusals, 0 differences",
+        "lower: {} states, {calls} calls ({staff} of stats, stats_at, audit, recover, room and tree_run), \
+         {both} of them answered by the Rust too, {refusals} refusals, 0 differences",
         it.states
     );
 }

@@ -1,140 +1,10 @@
-//! What is compared: numbers of frames, states, and calls on them. All of it follows from the seed.
+//! The calls that are compared, on states.rs's states. All of it follows from the seed.
 
 use crate::model::{MARK, needed, top_order};
-use crate::random::{Random, mask};
-use crate::sides::{Call, Outcome, Room, What};
-
-/// The ten tree sizes.
-pub const TREES: [u64; 10] = [1, 2, 4, 8, 16, 32, 64, 128, 256, 512];
-/// The most frames there can be.
-pub const MOST: u64 = 1_048_576;
-
-/// Numbers of frames around a row, a huge frame and the first trees.
-pub fn named_frames(t: u64) -> Vec<u64> {
-    let mut frames = vec![1, 63, 64, 65, 511, 512, 513];
-    frames.extend((1..4).flat_map(|trees| [512 * t * trees - 1, 512 * t * trees, 512 * t * trees + 1]));
-    frames
-}
-
-/// A number of frames: a named one, one within a few trees, or any to 300,000, of which most are small.
-pub fn frames(t: u64, random: &mut Random) -> u64 {
-    let end = match random.below(8) {
-        0..4 => return random.one_of(&named_frames(t)),
-        4..6 => (2048 * t).min(300_000) >> random.below(6),
-        _ => 300_000 >> random.below(10),
-    };
-    1 + random.below(end)
-}
-
-/// The rows of a huge frame that is neither free nor full: anything, rows that are all clear or all set,
-/// these and others, or one clear block alone.
-fn mixed(random: &mut Random) -> [u64; 8] {
-    match random.below(4) {
-        0 => [(); 8].map(|()| random.row()),
-        1 => [(); 8].map(|()| random.one_of(&[0, u64::MAX])),
-        2 => [(); 8].map(|()| {
-            let row = random.row();
-            random.one_of(&[0, 0, row, u64::MAX])
-        }),
-        _ => one_block(random),
-    }
-}
-
-fn one_block(random: &mut Random) -> [u64; 8] {
-    let mut rows = [u64::MAX; 8];
-    let order = random.below(9);
-    let place = random.below(512 >> order) << order;
-    if order < 6 {
-        rows[place as usize / 64] = !mask(place % 64, order);
-    } else {
-        rows[place as usize / 64..][..1 << (order - 6)].fill(0);
-    }
-    rows
-}
-
-/// A consistent state, fresh, half full, crowded or full.
-fn consistent(n: u64, t: u64, random: &mut Random) -> Room {
-    let (need_rows, need_entries) = needed(n, t);
-    let mut room = Room::new((need_rows, need_entries), random);
-    let (rows, entries) = room.lent(need_rows, need_entries);
-    entries.fill(0);
-    let fullness = random.below(4);
-    for (huge, rows) in rows.chunks_mut(8).enumerate() {
-        // 0 free, 1 held whole, 2 all bits set, 3 mixed, 4 one block free.
-        let kind = match fullness {
-            0 => 0,
-            1 => random.one_of(&[0, 1, 3, 3, 3]),
-            2 => random.one_of(&[1, 2, 4, 4]),
-            _ => random.one_of(&[1, 2]),
-        };
-        let past = n.saturating_sub(512 * huge as u64)..512;
-        if kind == 1 && past.is_empty() {
-            rows.fill(0);
-            entries[huge] = MARK;
-            continue;
-        }
-        rows.copy_from_slice(&match kind {
-            0 => [0; 8],
-            1 | 2 => [u64::MAX; 8],
-            3 => mixed(random),
-            _ => one_block(random),
-        });
-        past.for_each(|bit| rows[bit as usize / 64] |= 1 << (bit % 64));
-        entries[huge] = rows.iter().map(|row| row.count_zeros() as u16).sum();
-    }
-    room
-}
-
-/// Counts that no huge frame has.
-const ABOVE: [u16; 13] = [513, 514, 516, 520, 576, 640, 767, 768, 1024, 32768, 65280, 65533, 65534];
-
-/// Damages a state here and there, and hands back the huge frames where it did.
-fn damage(room: &mut Room, n: u64, t: u64, random: &mut Random) -> Vec<u64> {
-    let (need_rows, need_entries) = needed(n, t);
-    let (rows, entries) = room.lent(need_rows, need_entries);
-    let present = n.div_ceil(512);
-    match random.below(12) {
-        // As if all trees were whole: absent entries count as free, and bits past N are clear.
-        0 => {
-            rows.fill(0);
-            entries.fill(512);
-            return vec![];
-        }
-        1 => {
-            rows.fill_with(|| random.row());
-            entries.fill_with(|| random.word() as u16 >> random.below(16));
-            return vec![];
-        }
-        _ => {}
-    }
-    let mut places = Vec::new();
-    for _ in 0..1 + random.below(6) {
-        let (any, near) = (random.below(need_entries), (present + random.below(2)).min(need_entries) - 1);
-        let absent = present + random.below(need_entries + 1 - present);
-        let huge = random.one_of(&[any, near, near, absent.min(need_entries - 1)]);
-        places.push(huge);
-        let entry = &mut entries[huge as usize];
-        let power = 1 << random.below(10);
-        match random.below(9) {
-            0 => *entry = random.below(513) as u16,
-            1 => *entry = random.one_of(&ABOVE),
-            2 => *entry = MARK,
-            3 => *entry = 512,
-            4 => *entry = entry.wrapping_add(power),
-            5 => *entry = entry.wrapping_sub(power),
-            _ if huge >= present => *entry = power,
-            treatment => {
-                let rows = &mut rows[8 * huge as usize..][..8];
-                match treatment {
-                    6 => rows.fill(0),
-                    7 => rows[random.below(8) as usize] ^= 1 << random.below(64),
-                    _ => rows.copy_from_slice(&mixed(random)),
-                }
-            }
-        }
-    }
-    places
-}
+use crate::random::Random;
+use crate::room::Room;
+use crate::sides::{ALL, Call, Outcome, STAFF, What};
+use crate::states::{MOST, TREES, consistent, damage};
 
 /// States that are damaged throughout, and calls of each order on them that are all refused with 8: a count
 /// above 512 with no block, a mark over set bits, and a group that is free but ends past N.
@@ -158,8 +28,16 @@ pub fn refused_with_8(t: u64, random: &mut Random) -> Vec<(Room, Vec<Call>)> {
     ]
 }
 
+/// The staff's calls about one huge frame, or where that is absent about its tree.
+pub fn staff(n: u64, t: u64, huge: u64, random: &mut Random) -> Vec<Call> {
+    let at = (512 * huge + random.below(512)).min(n - 1);
+    let call = Call { at, ..lending(n, t, 0, 0) };
+    let orders = [9, top_order(t), random.below(20)].map(|order| Call { order, ..call }.to(What::StatsAt));
+    STAFF.map(|what| call.to(what)).into_iter().chain(orders).collect()
+}
+
 /// The numbers of a call that lends what is needed and so much more.
-fn lending(n: u64, t: u64, more_rows: u64, more_entries: u64) -> Call {
+pub fn lending(n: u64, t: u64, more_rows: u64, more_entries: u64) -> Call {
     let (rows, entries) = needed(n, t);
     Call {
         what: What::FreeAll,
@@ -182,6 +60,8 @@ pub struct Run {
     places: Vec<u64>,
     /// The blocks that it got and has not put back.
     held: Vec<(u64, u64)>,
+    /// Whether its state is consistent, and so stays it.
+    pub consistent: bool,
 }
 
 impl Run {
@@ -201,6 +81,7 @@ impl Run {
             gets: random.one_of(&[2, 4, 6]),
             places: (0..3).map(|_| random.below(n.div_ceil(512))).collect(),
             held: Vec::new(),
+            consistent: true,
         }
     }
 
@@ -209,6 +90,7 @@ impl Run {
         let mut run = Run::new(n, t, random);
         let mut room = consistent(n, t, random);
         if random.below(2) == 0 {
+            run.consistent = false;
             let last = n.div_ceil(512) - 1;
             run.places.extend(damage(&mut room, n, t, random).into_iter().map(|huge| huge.min(last)));
         }
@@ -259,6 +141,15 @@ impl Run {
             What::FreeAll | What::ReserveAll => self.held.clear(),
             _ => {}
         }
+    }
+
+    /// A call of the staff's: one time in 32 anything else than plain.
+    pub fn staff(&self, random: &mut Random) -> Call {
+        let what = random.one_of(&STAFF);
+        let any = random.below(20);
+        let order = random.one_of(&[0, 9, top_order(self.plain.t), any]);
+        let call = Call { order, ..self.call(What::StatsAt, 0, random) }.to(what);
+        if random.below(32) == 0 { odd(call, random) } else { call }
     }
 
     fn plain(&mut self, random: &mut Random) -> Call {
@@ -339,11 +230,7 @@ fn odd(mut call: Call, random: &mut Random) -> Call {
             _ => call.order = random.below(21),
         }
     }
-    if matches!(call.what, What::FreeAll | What::ReserveAll) {
-        Call { at: 0, order: 0, ..call }
-    } else {
-        call
-    }
+    call.to(call.what)
 }
 
 /// Every order with every row or frame above; every call with every pair of lengths, and with other numbers
@@ -355,11 +242,14 @@ pub fn every_edge(n: u64, t: u64, random: &mut Random) -> Vec<Call> {
         calls.extend(rows(n, t).into_iter().map(|at| Call { what: What::Get, at, order, ..plain }));
         for at in places(n, t, order) {
             let block = Call { at, order, ..plain };
-            calls.extend([What::GetAt, What::Put, What::IsFree].map(|what| Call { what, ..block }));
+            let on_blocks = [What::GetAt, What::Put, What::IsFree, What::StatsAt];
+            calls.extend(on_blocks.map(|what| block.to(what)));
         }
     }
-    let all = [What::FreeAll, What::ReserveAll, What::Get, What::GetAt, What::Put, What::IsFree];
-    let mut each = |call: Call| calls.extend(all.map(|what| Call { what, ..call }));
+    for at in places(n, t, top_order(t)) {
+        calls.extend([What::TreeRoom, What::TreeRun].map(|what| Call { what, at, ..plain }));
+    }
+    let mut each = |call: Call| calls.extend(ALL.map(|what| call.to(what)));
     let lengths = |need: u64| [0, 1, need / 2, need - 1, need, need + 1];
     for rows in lengths(plain.rows) {
         lengths(plain.entries).into_iter().for_each(|entries| each(Call { rows, entries, ..plain }));
@@ -370,8 +260,8 @@ pub fn every_edge(n: u64, t: u64, random: &mut Random) -> Vec<Call> {
     }
     // Those above have a reason or two to be refused; these may have more.
     for _ in 0..200 {
-        let mut call = Call { at: random.below(n), order: random.below(21), ..plain };
-        call.what = random.one_of(&all);
+        let call = Call { at: random.below(n), order: random.below(21), ..plain };
+        let call = call.to(random.one_of(&ALL));
         calls.push(odd(odd(call, random), random));
     }
     calls

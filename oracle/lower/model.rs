@@ -1,6 +1,6 @@
 //! A second reading of document 01: its rules for the lower level's calls, over single frames, plain and
 //! slow. Written from the document's words, not from our definitions or code, so that a slip in one of
-//! the two shows as a difference.
+//! the two shows as a difference. staff_model.rs has the staff's calls.
 
 /// "Entry 65535 is the mark: a huge frame held whole, free count 0."
 pub const MARK: u16 = 65535;
@@ -26,7 +26,7 @@ pub fn top_order(t: u64) -> u64 {
 impl Lent<'_> {
     // ---- The refusals, checked in the order of their numbers; 0 where there is none.
 
-    fn refused(&self) -> u64 {
+    pub fn refused(&self) -> u64 {
         if self.n == 0 || self.n > 1_048_576 {
             return 1;
         }
@@ -55,7 +55,7 @@ impl Lent<'_> {
 
     // ---- Single frames, blocks of them, and the entries of those from order 9.
 
-    fn bit(&self, frame: u64) -> bool {
+    pub fn bit(&self, frame: u64) -> bool {
         (self.rows[frame as usize / 64] >> (frame % 64)) & 1 == 1
     }
 
@@ -120,13 +120,13 @@ impl Lent<'_> {
         0
     }
 
-    /// Get without a frame: code, frame and probes.
-    pub fn get(&mut self, row: u64, order: u64) -> (u64, u64, u64) {
+    /// Get without a frame: code; frame and probes.
+    pub fn get(&mut self, row: u64, order: u64) -> (u64, [u64; 2]) {
         match self.refused_at_order(order) {
-            0 if row as u128 * 64 >= self.n as u128 => (5, 0, 0),
+            0 if row as u128 * 64 >= self.n as u128 => (5, [0, 0]),
             0 if order < 9 => self.get_small(row, order),
             0 => self.get_huge(row, order),
-            code => (code, 0, 0),
+            code => (code, [0, 0]),
         }
     }
 
@@ -134,7 +134,7 @@ impl Lent<'_> {
     /// tree. Skip the mark and counts below 2^order. Search the huge frame. If found, set the bits and
     /// lower the entry by 2^order. If not, go on. 7 if all fail. 8 if the search reaches an eligible
     /// absent entry, or a count above 512 with no block, or finds a block ending past N."
-    fn get_small(&mut self, row: u64, order: u64) -> (u64, u64, u64) {
+    fn get_small(&mut self, row: u64, order: u64) -> (u64, [u64; 2]) {
         let tree = row / (8 * self.t);
         for probes in 1..=self.t {
             let huge = tree * self.t + (row / 8 + probes - 1) % self.t;
@@ -143,20 +143,20 @@ impl Lent<'_> {
                 continue;
             }
             if 512 * huge >= self.n {
-                return (8, 0, probes);
+                return (8, [0, probes]);
             }
             match self.search(huge, row % 8, order) {
-                Some(frame) if frame + (1 << order) > self.n => return (8, 0, probes),
+                Some(frame) if frame + (1 << order) > self.n => return (8, [0, probes]),
                 Some(frame) => {
                     self.set_bits(frame, order, true);
                     self.entries[huge as usize] -= 1 << order;
-                    return (0, frame, probes);
+                    return (0, [frame, probes]);
                 }
-                None if entry > 512 => return (8, 0, probes),
+                None if entry > 512 => return (8, [0, probes]),
                 None => {}
             }
         }
-        (7, 0, self.t)
+        (7, [0, self.t])
     }
 
     /// "Orders 0 to 6: eight rows from (start row mod 8), wrapping, in every huge frame visited; in a row
@@ -178,7 +178,7 @@ impl Lent<'_> {
     /// "Groups of 2^(order−9) entries, from the group holding the start row's huge frame, wrapping. The
     /// first group whose entries are all 512 gets the mark throughout; rows stay as they are. 8 if that
     /// group ends past N."
-    fn get_huge(&mut self, row: u64, order: u64) -> (u64, u64, u64) {
+    fn get_huge(&mut self, row: u64, order: u64) -> (u64, [u64; 2]) {
         let frames = 1 << order;
         let tree = row / (8 * self.t) * 512 * self.t;
         let groups = 512 * self.t / frames;
@@ -186,35 +186,35 @@ impl Lent<'_> {
             let frame = tree + (64 * row / frames + probes - 1) % groups * frames;
             if self.group(frame, order).iter().all(|entry| *entry == 512) {
                 if frame + frames > self.n {
-                    return (8, 0, probes);
+                    return (8, [0, probes]);
                 }
                 self.group(frame, order).fill(MARK);
-                return (0, frame, probes);
+                return (0, [frame, probes]);
             }
         }
-        (7, 0, groups)
+        (7, [0, groups])
     }
 
-    /// Get with a frame: code, frame and probes. "Only that block. Order 9 and up: all entries 512, else 7.
+    /// Get with a frame: code; frame and probes. "Only that block. Order 9 and up: all entries 512, else 7.
     /// Below: entry marked or below 2^order is 7; bits not all clear is 7, or 8 if the count is above 512."
-    pub fn get_at(&mut self, frame: u64, order: u64) -> (u64, u64, u64) {
+    pub fn get_at(&mut self, frame: u64, order: u64) -> (u64, [u64; 2]) {
         let code = self.refused_block(frame, order);
         if code != 0 {
-            return (code, 0, 0);
+            return (code, [0, 0]);
         }
         if order >= 9 {
-            return if self.exchange(frame, order, 512, MARK) { (0, frame, 1) } else { (7, 0, 1) };
+            return if self.exchange(frame, order, 512, MARK) { (0, [frame, 1]) } else { (7, [0, 1]) };
         }
         let entry = self.entries[frame as usize / 512];
         if entry == MARK || entry < 1 << order {
-            return (7, 0, 1);
+            return (7, [0, 1]);
         }
         if !self.all_bits(frame, order, false) {
-            return (if entry > 512 { 8 } else { 7 }, 0, 1);
+            return (if entry > 512 { 8 } else { 7 }, [0, 1]);
         }
         self.set_bits(frame, order, true);
         self.entries[frame as usize / 512] -= 1 << order;
-        (0, frame, 1)
+        (0, [frame, 1])
     }
 
     /// "Order 9 and up: all entries the mark, which become 512; else 7. Below 9: marked with any bit set,
@@ -250,10 +250,10 @@ impl Lent<'_> {
 
     /// Code, and 1 for yes. "Order 9 and up, all entries 512. Below: count below 2^order no; count 512 yes;
     /// else the block's bits all clear." The mark's count is 0.
-    pub fn is_free(&mut self, frame: u64, order: u64) -> (u64, u64) {
+    pub fn is_free(&mut self, frame: u64, order: u64) -> (u64, [u64; 1]) {
         let code = self.refused_block(frame, order);
         if code != 0 {
-            return (code, 0);
+            return (code, [0]);
         }
         let yes = if order >= 9 {
             self.group(frame, order).iter().all(|entry| *entry == 512)
@@ -265,6 +265,6 @@ impl Lent<'_> {
                 _ => self.all_bits(frame, order, false),
             }
         };
-        (0, yes as u64)
+        (0, [yes as u64])
     }
 }

@@ -1,7 +1,8 @@
 //! Our side: worker.c in its process, and the batch that is being written for it.
 
 use crate::process::{Process, Words};
-use crate::sides::{Call, Outcome, Room};
+use crate::room::Room;
+use crate::sides::{Call, Outcome};
 
 pub struct Worker {
     process: Process,
@@ -17,6 +18,8 @@ impl Worker {
     /// last call may go past it. A request is shorter than that.
     const LIMIT: usize = 1 << 19;
     const STATE: u64 = 0;
+    /// The most numbers that a call is lent.
+    const NUMBERS: usize = 19;
 
     pub fn start(command: &[String]) -> Worker {
         Worker { process: Process::start(command), request: Vec::new(), most: 0, answers: 0 }
@@ -27,7 +30,7 @@ impl Worker {
         let words = room.words();
         self.request.extend([Self::STATE, words.len() as u64, room.row_words()]);
         self.request.extend(words);
-        self.most = 4 + 2 * words.len();
+        self.most = 3 + Self::NUMBERS + 2 * words.len();
     }
 
     /// With `keep`, what the call leaves is there for the next one; else the room is put back.
@@ -62,7 +65,9 @@ pub struct Answers(Words);
 impl Answers {
     pub fn next(&mut self) -> Outcome {
         let mut word = || self.0.word();
-        let (code, numbers, count) = (word(), [word(), word()], word());
+        let (code, count) = (word(), word());
+        let numbers = (0..count).map(|_| word()).collect();
+        let count = word();
         Outcome { code, numbers, changes: (0..count).map(|_| (word(), word())).collect() }
     }
 }

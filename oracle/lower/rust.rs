@@ -10,6 +10,9 @@ pub struct Rust {
     pub get: unsafe extern "C" fn(usize, *mut u64, *mut u16, usize, usize, Option<&usize>, &mut usize) -> u32,
     pub put: unsafe extern "C" fn(usize, *mut u64, *mut u16, usize, usize) -> u32,
     pub is_free: unsafe extern "C" fn(usize, *mut u64, *mut u16, usize, usize, &mut u32) -> u32,
+    pub stats: unsafe extern "C" fn(usize, *mut u64, *mut u16, &mut [usize; 3]) -> u32,
+    pub stats_at: unsafe extern "C" fn(usize, *mut u64, *mut u16, usize, usize, &mut [usize; 3]) -> u32,
+    pub recover: unsafe extern "C" fn(usize, *mut u64, *mut u16) -> u32,
 }
 
 impl Rust {
@@ -23,6 +26,9 @@ impl Rust {
                 get: library.function("get"),
                 put: library.function("put"),
                 is_free: library.function("is_free"),
+                stats: library.function("stats"),
+                stats_at: library.function("stats_at"),
+                recover: library.function("recover"),
             }
         }
     }

@@ -5,54 +5,61 @@
 mod inputs;
 #[path = "../library.rs"]
 mod library;
+mod line;
 mod model;
 #[path = "../random.rs"]
 mod random;
+#[allow(dead_code)]
+mod room;
 mod rust;
 #[allow(dead_code)]
 mod sides;
+mod staff_model;
+#[allow(dead_code)]
+mod states;
 
 use std::fmt::Write;
 
-use inputs::{Run, TREES};
+use inputs::Run;
+use line::{answer, line};
 use model::needed;
 use random::Random;
+use room::Room;
 use rust::Rust;
-use sides::{Call, Outcome, Room, What, by_model, by_rust};
+use sides::{Call, Outcome, What, by_model, by_rust};
+use states::TREES;
 
 /// The two files, as far as they are written.
 struct Sample {
     rust: Vec<Rust>,
     calls: String,
     answers: String,
+    /// Chooses the staff's calls.
+    random: Random,
 }
 
 impl Sample {
-    /// Makes a call on the room; where it is within the equality domain, writes it and its answer.
+    /// Makes a call on the room; where the Rust has an answer, writes it and its answer. Of the calls that
+    /// the Rust lacks an audit is written too.
     fn call(&mut self, call: &Call, room: &mut Room) -> Outcome {
-        let model = by_model(call, room);
-        if model.code != 0 && model.code != 7 {
-            return model;
-        }
-        let rust = self.rust.iter().find(|rust| rust.t == call.t).expect("a build for each tree size");
-        let mut outcome = by_rust(rust, call, room);
-        outcome.numbers[1] = model.numbers[1];
-        assert!(outcome == model, "the Rust and the model differ in {call}\n{}", room.print(call));
+        let outcome = by_model(call, room);
+        let rust = by_rust(&self.rust, call, room, &outcome);
+        let audit = call.what == What::Audit && outcome.code == 0;
+        let Some(text) = line(call).filter(|_| audit || rust.is_some()) else { return outcome };
+        assert!(rust.is_none_or(|rust| rust == outcome), "the Rust and the model differ in {call}");
         room.change(&outcome.changes);
+        writeln!(self.calls, "{text}").unwrap();
+        writeln!(self.answers, "{} {}", answer(&outcome), digest(call.n, call.t, room)).unwrap();
+        outcome
+    }
 
-        let Call { what, n, t, at, order, .. } = *call;
-        let Outcome { code, numbers: [first, second], .. } = outcome;
-        let digest = digest(n, t, room);
-        let (line, answer) = match what {
-            What::FreeAll => (format!("I {n} {t} 0"), format!("{code}")),
-            What::ReserveAll => (format!("I {n} {t} 1"), format!("{code}")),
-            What::Get => (format!("G {at} {order}"), format!("{code} {first} {second}")),
-            What::GetAt => (format!("P {at} {order}"), format!("{code} {first} {second}")),
-            What::Put => (format!("F {at} {order}"), format!("{code}")),
-            What::IsFree => (format!("Q {at} {order}"), format!("{code} {first}")),
-        };
-        writeln!(self.calls, "{line}").unwrap();
-        writeln!(self.answers, "{answer} {digest}").unwrap();
+    /// Makes a call of the kernel's and, mostly, one of its staff's.
+    fn calls(&mut self, call: &Call, run: &Run, room: &mut Room) -> Outcome {
+        let outcome = self.call(call, room);
+        if self.random.below(4) > 0 {
+            let call = run.staff(&mut self.random);
+            self.call(&call, room);
+        }
         outcome
     }
 }
@@ -72,16 +79,17 @@ fn main() {
         rust: words[3..].iter().map(|path| Rust::load(path)).collect(),
         calls: String::new(),
         answers: String::new(),
+        random: Random(2),
     };
     let mut random = Random(1);
     for t in TREES {
         for start in [What::FreeAll, What::ReserveAll] {
             let (mut room, run, start) = Run::from_start(512 * t, t, start, &mut random);
             sample.call(&start, &mut room);
-            run.tour(&mut random, |call| sample.call(&call, &mut room));
+            run.tour(&mut random, |call| sample.calls(&call, &run, &mut room));
         }
         // A few calls on each named number of frames that trace has room for, and many where they fill it soon.
-        let mut runs: Vec<(u64, usize)> = inputs::named_frames(t).into_iter().map(|n| (n, 8)).collect();
+        let mut runs: Vec<(u64, usize)> = states::named_frames(t).into_iter().map(|n| (n, 8)).collect();
         runs.retain(|(n, _)| needed(*n, t).0 <= 4096 && needed(*n, t).1 <= 512);
         runs.extend([(2000, 80), (2001, 80)]);
         for (number, (n, calls)) in runs.into_iter().enumerate() {
@@ -91,7 +99,7 @@ fn main() {
             sample.call(&Call { what: starts[1 - number % 2], ..first }, &mut room);
             for _ in 0..calls {
                 let call = run.next(&mut random);
-                let outcome = sample.call(&call, &mut room);
+                let outcome = sample.calls(&call, &run, &mut room);
                 run.saw(&call, &outcome);
             }
         }

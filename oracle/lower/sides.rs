@@ -3,95 +3,9 @@
 
 use std::fmt;
 
-use crate::model::Lent;
-use crate::random::Random;
+use crate::model::needed;
+use crate::room::{Change, Room};
 use crate::rust::Rust;
-
-/// Rows and entries, each with one before what is lent and two or more after what is needed, which no call
-/// may touch. They lie in words of 64 bits, the entries four to a word, as worker.c has them.
-#[derive(Clone, PartialEq)]
-pub struct Room {
-    words: Vec<u64>,
-    rows: usize,
-}
-
-/// A word of a room that a call changed: its place, and the new word.
-pub type Change = (u64, u64);
-
-impl Room {
-    /// Room for so many rows and entries, filled with anything.
-    pub fn new((rows, entries): (u64, u64), random: &mut Random) -> Room {
-        let rows = rows as usize + 3;
-        let words = rows + (entries as usize + 3).div_ceil(4);
-        Room { words: (0..words).map(|_| random.word()).collect(), rows }
-    }
-
-    pub fn words(&self) -> &[u64] {
-        &self.words
-    }
-
-    pub fn row_words(&self) -> u64 {
-        self.rows as u64
-    }
-
-    /// All rows and all entries, of which those from number 1 on can be lent.
-    fn all(&mut self) -> (&mut [u64], &mut [u16]) {
-        let (rows, entries) = self.words.split_at_mut(self.rows);
-        // Numbers of 64 bits are aligned as those of 16, and four of these take the place of one.
-        let entries =
-            unsafe { std::slice::from_raw_parts_mut(entries.as_mut_ptr().cast(), 4 * entries.len()) };
-        (rows, entries)
-    }
-
-    /// So many rows and entries, lent.
-    pub fn lent(&mut self, rows: u64, entries: u64) -> (&mut [u64], &mut [u16]) {
-        let (all_rows, all_entries) = self.all();
-        (&mut all_rows[1..][..rows as usize], &mut all_entries[1..][..entries as usize])
-    }
-
-    fn changes(&self, after: &Room) -> Vec<Change> {
-        let both = self.words.iter().zip(&after.words).enumerate();
-        both.filter(|(_, (old, new))| old != new).map(|(at, (_, new))| (at as u64, *new)).collect()
-    }
-
-    pub fn change(&mut self, changes: &[Change]) {
-        changes.iter().for_each(|(at, word)| self.words[*at as usize] = *word);
-    }
-
-    /// The state as the lent part of `call`, with equal numbers that follow each other counted.
-    pub fn print(&self, call: &Call) -> String {
-        fn text<T: PartialEq>(name: &str, list: &[T], print: impl Fn(&T) -> String) -> String {
-            let parts = list.chunk_by(|one, next| one == next).map(|equal| match equal.len() {
-                1 => format!(" {}", print(&equal[0])),
-                times => format!(" {times}x{}", print(&equal[0])),
-            });
-            format!("{name}:{}", parts.collect::<String>())
-        }
-        let mut copy = self.clone();
-        let (rows, entries) = copy.lent(call.rows, call.entries);
-        let rows = text("rows", rows, |row| format!("{row:#x}"));
-        format!("{rows}\n    {}", text("entries", entries, |entry| entry.to_string()))
-    }
-
-    /// The changes by the numbers of rows and entries; those not lent to `call` are said to be so.
-    pub fn print_changes(&self, call: &Call, changes: &[Change]) -> String {
-        let (mut before, mut after) = (self.clone(), self.clone());
-        after.change(changes);
-        let mut text = String::new();
-        let mut say = |name: &str, at: usize, lent: u64, new: String| {
-            let whose = if (1..=lent).contains(&(at as u64)) { "" } else { " (not lent)" };
-            text += &format!("\n    {name} {}{whose} now {new}", at as i64 - 1);
-        };
-        let ((old_rows, old_entries), (rows, entries)) = (before.all(), after.all());
-        for at in (0..rows.len()).filter(|at| rows[*at] != old_rows[*at]) {
-            say("row", at, call.rows, format!("{:#x}", rows[at]));
-        }
-        for at in (0..entries.len()).filter(|at| entries[*at] != old_entries[*at]) {
-            say("entry", at, call.entries, entries[at].to_string());
-        }
-        text
-    }
-}
 
 /// What a call is; the numbers are worker.c's.
 #[derive(Clone, Copy, PartialEq, Debug)]
@@ -102,10 +16,35 @@ pub enum What {
     GetAt,
     Put,
     IsFree,
+    Stats,
+    StatsAt,
+    Audit,
+    Recover,
+    TreeRoom,
+    TreeRun,
 }
 
-/// A call that lends so many rows and entries. `at` is the start row of a get, else the frame; a start
-/// takes neither that nor an order, which are then 0.
+/// The kernel's own calls and its staff's.
+pub const ALL: [What; 12] = [
+    What::FreeAll,
+    What::ReserveAll,
+    What::Get,
+    What::GetAt,
+    What::Put,
+    What::IsFree,
+    What::Stats,
+    What::StatsAt,
+    What::Audit,
+    What::Recover,
+    What::TreeRoom,
+    What::TreeRun,
+];
+/// Its staff's alone.
+pub const STAFF: [What; 6] =
+    [What::Stats, What::StatsAt, What::Audit, What::Recover, What::TreeRoom, What::TreeRun];
+
+/// A call that lends so many rows and entries. `at` is the start row of a get, else the frame. What a call
+/// does not take is 0.
 #[derive(Clone, Copy)]
 pub struct Call {
     pub what: What,
@@ -115,6 +54,18 @@ pub struct Call {
     pub entries: u64,
     pub at: u64,
     pub order: u64,
+}
+
+impl Call {
+    /// Another call with the same numbers, as far as it takes them.
+    pub fn to(self, what: What) -> Call {
+        let (at, order) = match what {
+            What::FreeAll | What::ReserveAll | What::Stats | What::Audit | What::Recover => (0, 0),
+            What::TreeRoom | What::TreeRun => (self.at, 0),
+            _ => (self.at, self.order),
+        };
+        Call { what, at, order, ..self }
+    }
 }
 
 impl fmt::Display for Call {
@@ -128,45 +79,73 @@ impl fmt::Display for Call {
             What::GetAt => write!(f, "get_at({lent}, frame {at}, order {order})"),
             What::Put => write!(f, "put({lent}, frame {at}, order {order})"),
             What::IsFree => write!(f, "is_free({lent}, frame {at}, order {order})"),
+            What::Stats => write!(f, "stats({lent})"),
+            What::StatsAt => write!(f, "stats_at({lent}, frame {at}, order {order})"),
+            What::Audit => write!(f, "audit({lent})"),
+            What::Recover => write!(f, "recover({lent})"),
+            What::TreeRoom => write!(f, "room({lent}, frame {at})"),
+            What::TreeRun => write!(f, "tree_run({lent}, frame {at})"),
         }
     }
 }
 
-/// What a call answered (its code, and the numbers that it was lent, else 0: frame and probes, or 1 for
-/// yes), and what it changed.
+/// What a call answered (its code, and the numbers that it was lent: frame and probes; 1 for yes; the three
+/// statistics; huge frame and reason; entries and bitfields; nineteen counts; offset and length), and what
+/// it changed.
 #[derive(Clone, PartialEq)]
 pub struct Outcome {
     pub code: u64,
-    pub numbers: [u64; 2],
+    pub numbers: Vec<u64>,
     pub changes: Vec<Change>,
 }
 
 pub fn by_model(call: &Call, before: &Room) -> Outcome {
-    let Call { what, n, t, at, order, .. } = *call;
+    let Call { what, at, order, .. } = *call;
     let mut after = before.clone();
-    let (rows, entries) = after.lent(call.rows, call.entries);
-    let mut lent = Lent { n, t, rows, entries };
-    let (code, first, second) = match what {
-        What::FreeAll => (lent.free_all(), 0, 0),
-        What::ReserveAll => (lent.reserve_all(), 0, 0),
-        What::Get => lent.get(at, order),
-        What::GetAt => lent.get_at(at, order),
-        What::Put => (lent.put(at, order), 0, 0),
-        What::IsFree => {
-            let (code, yes) = lent.is_free(at, order);
-            (code, yes, 0)
-        }
+    let mut lent = after.lent_to(call);
+    fn list<const K: usize>((code, numbers): (u64, [u64; K])) -> (u64, Vec<u64>) {
+        (code, numbers.to_vec())
+    }
+    let (code, numbers) = match what {
+        What::FreeAll => (lent.free_all(), vec![]),
+        What::ReserveAll => (lent.reserve_all(), vec![]),
+        What::Get => list(lent.get(at, order)),
+        What::GetAt => list(lent.get_at(at, order)),
+        What::Put => (lent.put(at, order), vec![]),
+        What::IsFree => list(lent.is_free(at, order)),
+        What::Stats => list(lent.stats()),
+        What::StatsAt => list(lent.stats_at(at, order)),
+        What::Audit => list(lent.audit()),
+        What::Recover => list(lent.recover()),
+        What::TreeRoom => list(lent.tree_room(at)),
+        What::TreeRun => list(lent.tree_run(at)),
     };
-    Outcome { code, numbers: [first, second], changes: before.changes(&after) }
+    Outcome { code, numbers, changes: before.changes(&after) }
 }
 
-/// The Rust counts no probes: that number is 0.
-pub fn by_rust(rust: &Rust, call: &Call, before: &Room) -> Outcome {
+/// Whether the Rust is to answer a call as the model does: it has the call, and the equality domain is what
+/// "passes 1 to 6 and is not refused with 8, less `recover` with absent entries".
+fn in_domain(call: &Call, model: &Outcome) -> bool {
+    (model.code == 0 || model.code == 7)
+        && match call.what {
+            What::Audit | What::TreeRoom | What::TreeRun => false,
+            What::Recover => needed(call.n, call.t).1 == call.n.div_ceil(512),
+            _ => true,
+        }
+}
+
+/// What the Rust does, in the build for the call's T, where that is in the equality domain. Probes, which it
+/// does not count, are the model's; what a recover changed, which it does not report, is what differs.
+pub fn by_rust(builds: &[Rust], call: &Call, before: &Room, model: &Outcome) -> Option<Outcome> {
+    if !in_domain(call, model) {
+        return None;
+    }
+    let rust = builds.iter().find(|rust| rust.t == call.t).expect("a build for each tree size");
     let mut after = before.clone();
     let (rows, entries) = after.lent(call.rows, call.entries);
     let (rows, entries) = (rows.as_mut_ptr(), entries.as_mut_ptr());
     let (n, at, order) = (call.n as usize, call.at as usize, call.order as usize);
-    let (mut found, mut yes) = (0, 0);
+    let (mut found, mut yes, mut stats) = (0, 0, [0; 3]);
     let code = unsafe {
         match call.what {
             What::FreeAll => (rust.new)(n, rows, entries, 0),
@@ -175,8 +154,19 @@ pub fn by_rust(rust: &Rust, call: &Call, before: &Room) -> Outcome {
             What::GetAt => (rust.get)(n, rows, entries, 0, order, Some(&at), &mut found),
             What::Put => (rust.put)(n, rows, entries, at, order),
             What::IsFree => (rust.is_free)(n, rows, entries, at, order, &mut yes),
+            What::Stats => (rust.stats)(n, rows, entries, &mut stats),
+            What::StatsAt => (rust.stats_at)(n, rows, entries, at, order, &mut stats),
+            What::Recover => (rust.recover)(n, rows, entries),
+            What::Audit | What::TreeRoom | What::TreeRun => unreachable!("not in the domain"),
         }
     };
-    let number = if call.what == What::IsFree { yes as u64 } else { found as u64 };
-    Outcome { code: code as u64, numbers: [number, 0], changes: before.changes(&after) }
+    let changes = before.changes(&after);
+    let numbers = match call.what {
+        What::Get | What::GetAt => vec![found as u64, model.numbers[1]],
+        What::IsFree => vec![yes as u64],
+        What::Stats | What::StatsAt => stats.map(|number| number as u64).to_vec(),
+        What::Recover => before.differing(&changes).to_vec(),
+        _ => vec![],
+    };
+    Some(Outcome { code: code as u64, numbers, changes })
 }

@@ -1,92 +1,154 @@
-//! What a comparison came by: how often each kind of call was answered with each code.
+//! What a comparison came by: how often each kind of call was answered with each code, and in what way.
 
 use std::process::exit;
 
 use crate::model::top_order;
-use crate::sides::{Call, Outcome, What};
+use crate::room::Room;
+use crate::sides::{ALL, Call, Outcome, STAFF, What};
 
 /// The place of all orders above the top order, and of calls without a tree size, which have no top order.
 const ABOVE: usize = 19;
+/// Ways to answer, at most.
+const WAYS: usize = 7;
+
+/// One count for each way to answer and each code.
+type Ways = [[u64; 9]; WAYS];
 
 #[derive(Default)]
 pub struct Tally {
-    /// One count for each call, order, flag (of is_free the answer) and code.
-    orders: [[[[u64; 9]; 2]; ABOVE + 1]; 7],
-    /// One for each call, logarithm of the tree size and code; not for refusals 1 and 2.
-    trees: [[[u64; 9]; 10]; 7],
+    /// For each call and order.
+    orders: [[Ways; ABOVE + 1]; 13],
+    /// For each call and logarithm of the tree size; not for refusals 1 and 2.
+    trees: [[Ways; 10]; 13],
+    /// Those that the Rust answered too.
+    both: u64,
+}
+
+/// The way in which a call is answered: `is_free` no or yes; `stats` without or with a free tree; `stats_at`
+/// of a frame not free or free, a huge frame not free or free, a tree not free or free, or nothing; the
+/// reason of an audit; `recover` of nothing, entries, bitfields or both, or the reason that it was refused
+/// for; room without or with a free tree; tree run of the first tree or another. All else is 0.
+fn way(call: &Call, before: &mut Room, answer: &Outcome) -> usize {
+    let Outcome { code, numbers, .. } = answer;
+    let above_0 = |number: usize| (numbers[number] > 0) as usize;
+    match call.what {
+        What::Recover if *code == 8 => before.lent_to(call).past_mending() as usize,
+        _ if *code != 0 => 0,
+        What::IsFree | What::TreeRun => above_0(0),
+        What::Stats => above_0(2),
+        What::StatsAt => match call.order {
+            0 => above_0(0),
+            9 => 2 + above_0(1),
+            order if order == top_order(call.t) => 4 + above_0(2),
+            _ => 6,
+        },
+        What::Audit => numbers[1] as usize,
+        What::Recover => above_0(0) + 2 * above_0(1),
+        What::TreeRoom => above_0(top_order(call.t) as usize),
+        _ => 0,
+    }
 }
 
 impl Tally {
-    pub fn add(&mut self, call: &Call, answer: &Outcome) {
-        let (what, code) = (call.what as usize, answer.code as usize);
-        let flag = (call.what == What::IsFree && answer.numbers[0] != 0) as usize;
+    pub fn add(&mut self, call: &Call, before: &mut Room, answer: &Outcome, both: bool) {
+        let (what, way, code) = (call.what as usize, way(call, before, answer), answer.code as usize);
+        self.both += both as u64;
         if code == 1 || code == 2 {
-            self.orders[what][ABOVE][flag][code] += 1;
+            self.orders[what][ABOVE][way][code] += 1;
             return;
         }
         let order = if call.order > top_order(call.t) { ABOVE } else { call.order as usize };
-        self.orders[what][order][flag][code] += 1;
-        self.trees[what][call.t.ilog2() as usize][code] += 1;
+        self.orders[what][order][way][code] += 1;
+        self.trees[what][call.t.ilog2() as usize][way][code] += 1;
     }
 
-    /// All calls; those that the Rust answered too; and those refused with 1 to 6 or 8.
-    pub fn figures(&self) -> [u64; 3] {
-        let mut figures = [0; 3];
-        for codes in self.orders.iter().flatten().flatten() {
-            let all: u64 = codes.iter().sum();
-            let both = codes[0] + codes[7];
-            figures[0] += all;
-            figures[1] += both;
-            figures[2] += all - both;
-        }
-        figures
+    /// All calls; the staff's among them; those that the Rust answered too; and those refused with 1 to 6 or
+    /// 8.
+    pub fn figures(&self) -> [u64; 4] {
+        let codes = |calls: &[What]| -> [u64; 9] {
+            let ways = calls.iter().flat_map(|what| self.orders[*what as usize].as_flattened());
+            ways.fold([0; 9], |sum, codes| std::array::from_fn(|code| sum[code] + codes[code]))
+        };
+        let all = codes(&ALL);
+        let calls = all.iter().sum();
+        [calls, codes(&STAFF).iter().sum(), self.both, calls - all[0] - all[7]]
     }
 
     /// Ends the run unless each call was answered with each code that it can have, at each order and tree
     /// size: a comparison that never gets there would say nothing.
     pub fn demand_all(&self) {
         for start in [What::FreeAll, What::ReserveAll] {
-            self.demand(start, 0, false, &[0, 3]);
-            self.demand(start, ABOVE, false, &[1, 2]);
+            self.demand(start, 0, 0, &[0, 3]);
             self.demand_trees(start, &[0, 3]);
         }
         let on_frames = [What::Get, What::GetAt, What::Put, What::IsFree];
         for order in 0..ABOVE {
-            on_frames.iter().for_each(|what| self.demand(*what, order, false, &[0, 5]));
-            on_frames[..3].iter().for_each(|what| self.demand(*what, order, false, &[7]));
+            on_frames.iter().for_each(|what| self.demand(*what, order, 0, &[0, 5]));
+            on_frames[..3].iter().for_each(|what| self.demand(*what, order, 0, &[7]));
             // Order 0 is aligned anywhere.
             if order > 0 {
-                on_frames[1..].iter().for_each(|what| self.demand(*what, order, false, &[6]));
+                on_frames[1..].iter().for_each(|what| self.demand(*what, order, 0, &[6]));
             }
-            self.demand(What::IsFree, order, true, &[0]);
-            self.demand(What::Get, order, false, &[8]);
+            self.demand(What::IsFree, order, 1, &[0]);
+            self.demand(What::Get, order, 0, &[8]);
             if order < 9 {
-                self.demand(What::GetAt, order, false, &[8]);
-                self.demand(What::Put, order, false, &[8]);
+                self.demand(What::GetAt, order, 0, &[8]);
+                self.demand(What::Put, order, 0, &[8]);
             }
         }
-        on_frames.iter().for_each(|what| self.demand(*what, ABOVE, false, &[1, 2, 4]));
+        on_frames.iter().for_each(|what| self.demand(*what, ABOVE, 0, &[4]));
+        ALL.iter().for_each(|what| self.demand(*what, ABOVE, 0, &[1, 2]));
         self.demand_trees(What::Get, &[0, 3, 4, 5, 7, 8]);
         self.demand_trees(What::GetAt, &[0, 3, 4, 5, 6, 7, 8]);
         self.demand_trees(What::Put, &[0, 3, 4, 5, 6, 7, 8]);
         self.demand_trees(What::IsFree, &[0, 3, 4, 5, 6]);
+        self.demand_staff();
     }
 
-    fn demand(&self, what: What, order: usize, flag: bool, codes: &[usize]) {
-        for code in codes {
-            if self.orders[what as usize][order][flag as usize][*code] == 0 {
-                println!("lower: never compared: {what:?}, order {order}, flag {flag}, code {code}");
-                exit(1);
-            }
+    /// The same of the staff's calls: each way to answer, at each tree size. In trees of one huge frame no
+    /// entry is absent, and 9 is the top order.
+    fn demand_staff(&self) {
+        for log in 0..10 {
+            let demand = |what, way, codes| self.demand_tree(what, log, way, codes);
+            let has = |way: &usize, absent: &[usize]| log > 0 || !absent.contains(way);
+            STAFF.iter().for_each(|what| demand(*what, 0, &[0, 3]));
+            [What::StatsAt, What::TreeRoom, What::TreeRun].iter().for_each(|what| demand(*what, 0, &[5]));
+            [What::Stats, What::TreeRoom, What::TreeRun].iter().for_each(|what| demand(*what, 1, &[0]));
+            (1..7).filter(|way| has(way, &[4, 5])).for_each(|way| demand(What::StatsAt, way, &[0]));
+            (1..6).filter(|way| has(way, &[5])).for_each(|way| demand(What::Audit, way, &[0]));
+            (1..4).for_each(|way| demand(What::Recover, way, &[0]));
+            [1, 3, 5].iter().filter(|way| has(way, &[5])).for_each(|way| demand(What::Recover, *way, &[8]));
         }
+        for order in 0..=ABOVE {
+            let way = match order {
+                0 => 0,
+                9 => 2,
+                18 => 4,
+                _ => 6,
+            };
+            self.demand(What::StatsAt, order, way, &[0]);
+            self.demand(What::StatsAt, order, 0, &[5]);
+        }
+    }
+
+    fn demand(&self, what: What, order: usize, way: usize, codes: &[usize]) {
+        let name = format!("{what:?}, order {order}, way {way}");
+        met(&self.orders[what as usize][order][way], codes, &name);
+    }
+
+    fn demand_tree(&self, what: What, log: usize, way: usize, codes: &[usize]) {
+        let name = format!("{what:?}, T {}, way {way}", 1 << log);
+        met(&self.trees[what as usize][log][way], codes, &name);
     }
 
     fn demand_trees(&self, what: What, codes: &[usize]) {
-        for (log, met) in self.trees[what as usize].iter().enumerate() {
-            for code in codes.iter().filter(|code| met[**code] == 0) {
-                println!("lower: never compared: {what:?}, T {}, code {code}", 1 << log);
-                exit(1);
-            }
-        }
+        (0..10).for_each(|log| self.demand_tree(what, log, 0, codes));
+    }
+}
+
+fn met(counts: &[u64; 9], codes: &[usize], name: &str) {
+    for code in codes.iter().filter(|code| counts[**code] == 0) {
+        println!("lower: never compared: {name}, code {code}");
+        exit(1);
     }
 }

@@ -19,10 +19,36 @@ number rb_get_at(size n, size t, word *rows, size rows_len, entry *entries, size
 number rb_put(size n, size t, word *rows, size rows_len, entry *entries, size entries_len, size frame, size order);
 number rb_is_free(size n, size t, const word *rows, size rows_len, const entry *entries, size entries_len, size frame,
                   size order, number *yes);
+number rb_stats(size n, size t, const word *rows, size rows_len, const entry *entries, size entries_len,
+                size *free_frames, size *free_huge, size *free_trees);
+number rb_stats_at(size n, size t, const word *rows, size rows_len, const entry *entries, size entries_len, size frame,
+                   size order, size *free_frames, size *free_huge, size *free_trees);
+number rb_audit(size n, size t, const word *rows, size rows_len, const entry *entries, size entries_len, size *huge,
+                number *reason);
+number rb_recover(size n, size t, word *rows, size rows_len, entry *entries, size entries_len, size *entries_changed,
+                  size *bitfields_changed);
+number rb_room(size n, size t, const word *rows, size rows_len, const entry *entries, size entries_len, size frame,
+               size *counts);
+number rb_tree_run(size n, size t, const word *rows, size rows_len, const entry *entries, size entries_len, size frame,
+                   size *offset, size *length);
 
-enum { STATE, FREE_ALL, RESERVE_ALL, GET, GET_AT, PUT, IS_FREE };
+enum {
+    STATE,
+    FREE_ALL,
+    RESERVE_ALL,
+    GET,
+    GET_AT,
+    PUT,
+    IS_FREE,
+    STATS,
+    STATS_AT,
+    AUDIT,
+    RECOVER,
+    TREE_ROOM,
+    TREE_RUN
+};
 
-enum { BATCH = 1 << 20, ROOM = 1 << 15 };
+enum { BATCH = 1 << 20, ROOM = 1 << 15, NUMBERS = 19 };
 static word request[BATCH], reply[1 + BATCH];
 
 /* The rows, then the entries, and both as they were before the call. One row and one entry come before what
@@ -30,37 +56,53 @@ static word request[BATCH], reply[1 + BATCH];
 static word room[ROOM], before[ROOM];
 static word words, row_words;
 
-/* One call on the room: code and lent numbers go to out. */
-static void call(const word *item, word *out)
+/* One call on the room, whose lent numbers go to lent: the code, and how many numbers it was lent. */
+static number call(const word *item, size *lent, word *numbers)
 {
     word *rows = room + 1, n = item[2], t = item[3], rows_len = item[4], entries_len = item[5];
     entry *entries = (entry *)(room + row_words) + 1;
     word at = item[6], order = item[7];
-    size first = UNWRITTEN, second = UNWRITTEN;
-    number yes = (number)UNWRITTEN;
+    number code, small = (number)UNWRITTEN;
 
-    out[1] = out[2] = 0;
+    for (word i = 0; i < NUMBERS; i++)
+        lent[i] = UNWRITTEN;
+    *numbers = 2;
     switch (item[0]) {
     case FREE_ALL:
-        out[0] = rb_free_all(n, t, rows, rows_len, entries, entries_len);
-        break;
+        *numbers = 0;
+        return rb_free_all(n, t, rows, rows_len, entries, entries_len);
     case RESERVE_ALL:
-        out[0] = rb_reserve_all(n, t, rows, rows_len, entries, entries_len);
-        break;
+        *numbers = 0;
+        return rb_reserve_all(n, t, rows, rows_len, entries, entries_len);
     case GET:
-        out[0] = rb_get(n, t, rows, rows_len, entries, entries_len, at, order, &first, &second);
-        out[1] = first, out[2] = second;
-        break;
+        return rb_get(n, t, rows, rows_len, entries, entries_len, at, order, &lent[0], &lent[1]);
     case GET_AT:
-        out[0] = rb_get_at(n, t, rows, rows_len, entries, entries_len, at, order, &first, &second);
-        out[1] = first, out[2] = second;
-        break;
+        return rb_get_at(n, t, rows, rows_len, entries, entries_len, at, order, &lent[0], &lent[1]);
     case PUT:
-        out[0] = rb_put(n, t, rows, rows_len, entries, entries_len, at, order);
-        break;
+        *numbers = 0;
+        return rb_put(n, t, rows, rows_len, entries, entries_len, at, order);
+    case IS_FREE:
+        *numbers = 1;
+        code = rb_is_free(n, t, rows, rows_len, entries, entries_len, at, order, &small);
+        lent[0] = small;
+        return code;
+    case STATS:
+        *numbers = 3;
+        return rb_stats(n, t, rows, rows_len, entries, entries_len, &lent[0], &lent[1], &lent[2]);
+    case STATS_AT:
+        *numbers = 3;
+        return rb_stats_at(n, t, rows, rows_len, entries, entries_len, at, order, &lent[0], &lent[1], &lent[2]);
+    case AUDIT:
+        code = rb_audit(n, t, rows, rows_len, entries, entries_len, &lent[0], &small);
+        lent[1] = small;
+        return code;
+    case RECOVER:
+        return rb_recover(n, t, rows, rows_len, entries, entries_len, &lent[0], &lent[1]);
+    case TREE_ROOM:
+        *numbers = NUMBERS;
+        return rb_room(n, t, rows, rows_len, entries, entries_len, at, lent);
     default:
-        out[0] = rb_is_free(n, t, rows, rows_len, entries, entries_len, at, order, &yes);
-        out[1] = yes;
+        return rb_tree_run(n, t, rows, rows_len, entries, entries_len, at, &lent[0], &lent[1]);
     }
 }
 
@@ -101,11 +143,12 @@ int main(void)
                 memcpy(before, in + 3, words * sizeof *room);
                 in += 3 + words;
             } else {
-                if (4 + 2 * words > (word)(reply + 1 + BATCH - out))
+                if (3 + NUMBERS + 2 * words > (word)(reply + 1 + BATCH - out))
                     return 1;
-                call(in, out);
-                out[3] = changes(in[1], out + 4);
-                in += 8, out += 4 + 2 * out[3];
+                out[0] = call(in, out + 2, &out[1]);
+                out += 2 + out[1];
+                out[0] = changes(in[1], out + 1);
+                in += 8, out += 1 + 2 * out[0];
             }
         }
         reply[0] = (word)(out - reply - 1);

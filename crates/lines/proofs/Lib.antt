@@ -3,3 +3,4 @@ pub mod Texts
 pub mod Cases
 pub mod OneField
 pub mod Laws
+pub mod Ends
