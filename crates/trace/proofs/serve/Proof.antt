@@ -69,9 +69,9 @@ loop-again c =
       ⊎-elim (λ w. omega (arith, ap length (w .13))) (λ w. omega (arith, ap length (w .2))) (c .if1 .came),
       ⊎-elim (λ w. omega (arith, ap length (w .14))) (λ w. omega (arith, ap length (w .3))) (c .if1 .came),
       ⊎-elim
-      (λ w. rw (w .15) record { kept = w .5 .ensures .1 .kept; fits = omega (arith, w .5 .ensures .1 .fits, at .loop .inv .3) })
-      (λ w. rw (w .4) record { kept = kept-most _ _ _ (keep .ensures); fits = at .loop .inv .4 .fits })
-      (c .if1 .came),
+          (λ w. rw (w .15) record { kept = w .5 .ensures .1 .kept; fits = omega (arith, w .5 .ensures .1 .fits, at .loop .inv .3) })
+          (λ w. rw (w .4) record { kept = kept-most _ _ _ (keep .ensures); fits = at .loop .inv .4 .fits })
+          (c .if1 .came),
     )
 
 same-length : tie.Need-same-length Inv-loop μ-loop
