@@ -5,7 +5,7 @@ use mathlib.Core.List.{List}
 use Prim.Native.Nat.{ℕ, _+_, _-_, _*_, _^_, _≤_, _<_}
 use native.Mathlib.Nat.{zero-add, sub-zero, mul-assoc}
 use native.Mathlib.Omega.{arith}
-use lib.ListN.{length, take, drop, length-drop}
+use lib.ListN.{length, take}
 use lib.Seq.{length-take-le}
 use Rattle.base.specs.Walk.{count}
 use Rattle.base.specs.Bits.{bitIs, blockIs}
@@ -13,7 +13,7 @@ use Rattle.base.specs.Size.{Huge, rowsOf}
 use Rattle.base.proofs.Walks.{count-full}
 use Rattle.base.proofs.Sizes.{rows-frames, frames-fit}
 use Rattle.base.proofs.Frames.{block-of, zeros-block}
-use Rattle.base.proofs.Parts.{zeros-part, block-part}
+use Rattle.base.proofs.Parts.{part-long, zeros-part, block-part}
 use Rattle.shape.specs.State.{partOf, clearOf}
 use Rattle.shape.proofs.Needed.{frames-word}
 
@@ -21,16 +21,16 @@ use Rattle.shape.proofs.Needed.{frames-word}
 
 module _ {h : ℕ} (H : Huge h) (rs : List ℕ) (x : ℕ) (lent : (x + 1) * rowsOf h ≤ length rs) where
   -- as many rows as a huge frame has are lent to it
-  part-long : length (partOf h rs x) ≡ rowsOf h
-  part-long = length-take-le (rowsOf h) (drop (x * rowsOf h) rs) (omega (arith, length-drop (x * rowsOf h) rs))
+  rows-long : length (partOf h rs x) ≡ rowsOf h
+  rows-long = part-long rs (x * rowsOf h) (rowsOf h) (omega arith)
 
   -- a huge frame's rows have few enough bits for a word to count
   pub part-fits : length (partOf h rs x) * 64 < 2 ^ 64
-  part-fits = rw part-long (omega (arith, rows-frames H, frames-fit H))
+  part-fits = rw rows-long (omega (arith, rows-frames H, frames-fit H))
 
   -- its clear bits are those of its rows
   pub clear-by-part : count (bitIs false (partOf h rs x)) (length (partOf h rs x) * 64) 0 ≡ clearOf h rs x
-  clear-by-part = rw (part-long, rows-frames H, ← mul-assoc) (zeros-part rs (x * rowsOf h) (rowsOf h))
+  clear-by-part = rw (rows-long, rows-frames H, ← mul-assoc) (zeros-part rs (x * rowsOf h) (rowsOf h))
 
 module _ (h : ℕ) (rs : List ℕ) (x : ℕ) where
   -- they are all of its bits exactly if all of these are clear

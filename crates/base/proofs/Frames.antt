@@ -9,11 +9,12 @@ use native.Mathlib.Omega.{arith}
 use lib.Dec.{eqb}
 use lib.Pow.{pow-pos, pow-add, high, low, field, mod-mod-pow, shr-shr, ones-lt, ones-split}
 use lib.ListN.{length, getD}
-use borrow.Author.Tests.{eq-eqb, ne-eqb}
+use borrow.Author.Tests.{eq-eqb, ne-eqb, eqb-true}
 use Rattle.base.specs.Walk.{pick, count}
 use Rattle.base.specs.Bits.{bitsAt, solid, bitIs, blockIs, overlay, withBits}
 use Rattle.base.proofs.Walks.{all-each, all-of, count-full, count-of, count-none, count-same, count-three}
-use Rattle.base.proofs.Writes.{getD-with}
+use Rattle.base.proofs.Rows.{whole-row}
+use Rattle.base.proofs.Writes.{solid-lt, getD-with}
 
 -- ---- one row
 
@@ -28,10 +29,6 @@ high-bit : (n q k : ℕ) → k ≤ q → bitsAt n q 1 ≡ bitsAt (n / 2 ^ k) (q 
 high-bit n q k h =
     let w : k + (q - k) ≡ q = omega arith in
     ap (λ (e : ℕ). bitsAt n e 1) (sym w) ∙ ap (λ (x : ℕ). x % 2) (sym (shr-shr n k (q - k)))
-
-solid-lt : (b : Bool) (s : ℕ) → solid b s < 2 ^ s
-solid-lt true s = ones-lt s
-solid-lt false s = pow-pos s
 
 -- each bit of a solid number
 solid-bit : (b : Bool) (s q : ℕ) → q < s → bitsAt (solid b s) q 1 ≡ pick b 1 0
@@ -99,6 +96,16 @@ alike-bit true true = refl
 alike-bit true false = refl
 alike-bit false true = refl
 alike-bit false false = refl
+
+-- equal rows have equal bits
+pub same-bit : (b : Bool) (rows left : List ℕ) (f : ℕ) → getD rows (f / 64) 0 ≡ getD left (f / 64) 0 → bitIs b rows f ≡ bitIs b left f
+unfolding bitIs
+same-bit b rows left f e = ap (λ (v : ℕ). eqb (bitsAt v (f % 64) 1) (pick b 1 0)) e
+
+-- and a row of 0 has all its bits clear
+pub zero-bit : (rows : List ℕ) (f : ℕ) → getD rows (f / 64) 0 ≡ 0 → bitIs false rows f ≡ true
+unfolding bitIs
+zero-bit rows f e = ap (λ (v : ℕ). eqb (bitsAt v (f % 64) 1) 0) e ∙ ap (λ (v : ℕ). eqb (v % 2) 0) (zero-div (2 ^ (f % 64)))
 
 -- the frames from a up to e are written with b, the others of the first n are as they were, and so the clear ones can be counted
 pub record Wrote (b : Bool) (rows : List ℕ) (a e n : ℕ) (left : List ℕ) : Type 0 where
@@ -192,3 +199,9 @@ zeros-block false rows p s e = count-of (bitIs false rows) s p (block-each false
 -- where all of n frames are clear, every block in them is
 pub all-clear : (rows : List ℕ) (n p s : ℕ) → count (bitIs false rows) n 0 ≡ n → p + s ≤ n → blockIs false rows p s ≡ true
 all-clear rows n p s e l = block-of false rows p s (λ f lo hi. count-full (bitIs false rows) n 0 e f (omega arith) (omega arith))
+
+-- a row whose bits are all clear is 0
+pub clear-row : (rows : List ℕ) → ((i : ℕ) → getD rows i 0 < 2 ^ 64) → (i : ℕ) → ((f : ℕ) → i * 64 ≤ f → f < (i + 1) * 64 → bitIs false rows f ≡ true)
+    → getD rows i 0 ≡ 0
+clear-row rows fits i clear =
+    eqb-true (getD rows i 0) 0 (sym (whole-row false rows fits i) ∙ block-of false rows (i * 64) 64 (λ f lo hi. clear f lo (omega arith)))

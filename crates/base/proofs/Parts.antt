@@ -13,6 +13,10 @@ use Rattle.base.proofs.Walks.{all-same, count-same, count-shift}
 use Rattle.base.proofs.Masks.{overlay-none}
 use Rattle.base.proofs.Writes.{with-none}
 
+-- k rows from row a on are k rows, where so many are lent
+pub part-long : (rows : List ℕ) (a k : ℕ) → a + k ≤ length rows → length (take k (drop a rows)) ≡ k
+part-long rows a k fits = length-take-le k (drop a rows) (omega (arith, length-drop a rows))
+
 -- frame f of the k rows from row a on is frame a * 64 + f of all rows
 pub bit-part : (b : Bool) (rows : List ℕ) (a k f : ℕ) → f < k * 64 → bitIs b (take k (drop a rows)) f ≡ bitIs b rows (a * 64 + f)
 unfolding bitIs
@@ -65,7 +69,7 @@ with-part b rows a k p e fits l h =
     let part = take k (drop a rows) in
     let rest = drop k (drop a rows) in
     let la : length (take a rows) ≡ a = length-take-le a rows (omega arith) in
-    let lk : length (take k (drop a rows)) ≡ k = length-take-le k (drop a rows) (omega (arith, length-drop a rows)) in
+    let lk : length (take k (drop a rows)) ≡ k = part-long rows a k fits in
     let p0 : a * 64 + p - length (take a rows) * 64 ≡ p = omega arith in
     let e0 : a * 64 + e - length (take a rows) * 64 ≡ e = omega arith in
     let p1 : p - length (take k (drop a rows)) * 64 ≡ 0 = omega arith in

@@ -99,7 +99,7 @@ module _ (b : Bool) (rows : List ℕ) where
 
   module _ (fits : (j : ℕ) → getD rows j 0 < 2 ^ 64) where
     -- one whole row
-    whole-row : (i : ℕ) → blockIs b rows (i * 64) 64 ≡ eqb (getD rows i 0) (solid b 64)
+    pub whole-row : (i : ℕ) → blockIs b rows (i * 64) 64 ≡ eqb (getD rows i 0) (solid b 64)
     whole-row i =
         let r : i * 64 / 64 ≡ i = omega arith in
         let q : i * 64 % 64 ≡ 0 = omega arith in

@@ -1,15 +1,38 @@
--- Laws of sums over a range of indices. Assumes nothing.
-use mathlib.Core.Path.{_≡_, refl, sym}
-use Prim.Native.Nat.{ℕ, zero, suc, _+_, _*_, _≤_, _<_}
+-- Laws of sums over a range of indices: what a loop's turn does, and what the sum says. Assumes nothing.
+use mathlib.Core.Path.{_≡_, refl, sym, ap}
+use Prim.Native.Nat.{ℕ, zero, suc, _+_, _*_, _≤_, _<_, zero-le}
 use native.Mathlib.Omega.{arith}
 use native.Mathlib.Numerals.{add-one}
-use native.Mathlib.Nat.{add-zero, add-suc}
+use native.Mathlib.Nat.{zero-add, add-zero, add-suc}
 use Rattle.base.specs.Walk.{sum}
 
 -- one index more
 pub sum-more : (f : ℕ → ℕ) (n i : ℕ) → sum f (n + 1) i ≡ sum f n i + f (i + n)
 unfolding sum
 sum-more f n i = rw add-one
+
+-- one index alone
+pub sum-one : (f : ℕ → ℕ) (i : ℕ) → sum f 1 i ≡ f i
+unfolding sum
+sum-one f i = rw (add-zero i) (zero-add (f i))
+
+-- what a loop knows after i of the k terms from at on, each of them at most b: their sum, which is at most i times b
+pub record SumAt (f : ℕ → ℕ) (b at k i s : ℕ) : Type 0 where
+  pub inside : i ≤ k
+  pub low : s ≤ i * b
+  pub sum-is : s ≡ sum f i at
+
+module _ {f : ℕ → ℕ} {b at k : ℕ} where
+  pub sum-start : SumAt f b at k 0 0
+  unfolding sum
+  sum-start = record { inside = zero-le; low = zero-le; sum-is = refl }
+
+  -- a turn adds one term
+  pub sum-turn : {i s x : ℕ} → SumAt f b at k i s → i < k → x ≡ f (at + i) → x ≤ b → SumAt f b at k (i + 1) (s + x)
+  sum-turn {i} {s} {x} a l e m = record { inside = omega arith; low = omega (arith, a .low); sum-is = rw (sum-more f i at, ← e) (ap (λ (y : ℕ). y + x) (a .sum-is)) }
+
+  pub sum-end : {i s : ℕ} → SumAt f b at k i s → k ≤ i → s ≡ sum f k at
+  sum-end {i} a l = let last : i ≡ k = omega (arith, a .inside) in rw last at (a .sum-is)
 
 -- a sum sees its terms at the walked indices alone
 pub sum-same : (f g : ℕ → ℕ) (n i : ℕ) → ((j : ℕ) → i ≤ j → j < i + n → f j ≡ g j) → sum f n i ≡ sum g n i

@@ -3,7 +3,7 @@ use mathlib.Core.Path.{_≡_, refl, sym, ap, _∙_}
 use mathlib.Core.Bool.{Bool, true, false}
 use mathlib.Core.Logic.{_⊎_, inl, inr, ⊎-elim}
 use native.Mathlib.Decide.{decLe}
-use Prim.Native.Nat.{ℕ, zero, suc, _+_, _-_, _≤_, _<_}
+use Prim.Native.Nat.{ℕ, zero, suc, _+_, _-_, _≤_, _<_, min, zero-le}
 use native.Mathlib.Omega.{arith}
 use native.Mathlib.Numerals.{add-one}
 use native.Mathlib.Nat.{add-zero, zero-add, suc-add, add-suc}
@@ -264,3 +264,36 @@ count-more p n i = count-parts p n 1 i ∙ ap (λ (k : ℕ). count p n i + k) (o
     one : (b : Bool) → pick b (suc (count p zero (suc (i + n)))) (count p zero (suc (i + n))) ≡ pick b 1 0
     one true = refl
     one false = refl
+
+-- what a loop knows at index x of k: how many of the indices below it pass
+pub record CountAt (p : ℕ → Bool) (k x s : ℕ) : Type 0 where
+  pub inside : x ≤ k
+  pub low : s ≤ x
+  pub count-is : s ≡ count p x 0
+
+module _ {p : ℕ → Bool} {k : ℕ} where
+  pub count-start : CountAt p k 0 0
+  unfolding count
+  count-start = record { inside = zero-le; low = zero-le; count-is = refl }
+
+  pub count-hit : {x s : ℕ} → CountAt p k x s → x < k → p x ≡ true → CountAt p k (x + 1) (s + 1)
+  count-hit {x} a l q = record { inside = omega arith; low = omega (arith, a .low); count-is = rw (count-more p x 0, zero-add x, q, ← a .count-is) }
+
+  pub count-miss : {x s : ℕ} → CountAt p k x s → x < k → p x ≡ false → CountAt p k (x + 1) s
+  count-miss {x} a l q = record { inside = omega arith; low = omega (arith, a .low); count-is = rw (count-more p x 0, zero-add x, q) (omega (arith, a .count-is)) }
+
+  pub count-end : {x s : ℕ} → CountAt p k x s → k ≤ x → s ≡ count p k 0
+  count-end {x} a l = let last : x ≡ k = omega (arith, a .inside) in rw last at (a .count-is)
+
+-- of s indices from i on, those below c
+pub count-below : (p : ℕ → Bool) (c s i : ℕ) → ((f : ℕ) → i ≤ f → f < i + s → f < c → p f ≡ true)
+    → ((f : ℕ) → i ≤ f → f < i + s → c ≤ f → p f ≡ false) → count p s i ≡ min (c - i) s
+count-below p c s i below past =
+    let k = min (c - i) s in
+    let whole : s ≡ k + (s - k) = omega arith in
+    ap (λ (j : ℕ). count p j i) whole ∙ count-parts p k (s - k) i
+    ∙ omega (
+      arith,
+      count-of p k i (λ f a b. below f a (omega arith) (omega arith)),
+      count-none p (s - k) (i + k) (λ f a b. past f (omega arith) (omega arith) (omega arith)),
+    )

@@ -3,10 +3,12 @@ use mathlib.Core.Path.{_≡_, refl, sym, ap, ap₂, _∙_}
 use mathlib.Core.Bool.{Bool, true, false}
 use mathlib.Core.List.{List, [], _∷_, _++_}
 use Prim.Native.Nat.{ℕ, zero, suc, _+_, _-_, _*_, _/_, _%_, _^_, _≤_, _<_, min}
-use native.Mathlib.Nat.{zero-add, suc-add, div-add-mod', le-of-suc-le-suc, not-suc-le-zero}
+use native.Mathlib.Nat.{zero-add, suc-add, div-add-mod', mod-lt, mul-le-mul-right, sub-add-cancel, le-of-suc-le-suc, not-suc-le-zero}
 use native.Mathlib.Omega.{arith}
+use lib.Pow.{pow-pos, ones-lt, shr-lt}
 use lib.ListN.{length, getD, set, take, drop, replicate}
 use Rattle.base.specs.Bits.{solid, overlay, withBits}
+use Rattle.base.proofs.Sizes.{pow-divides}
 use Rattle.base.proofs.Masks.{overlay-none}
 
 -- bits from a up to a are none
@@ -92,3 +94,23 @@ with-beyond b (v ∷ rows) a e zero l h =
     let hi : min e 64 ≡ 0 = omega arith in
     rw (lo, hi) (overlay-none b v 0)
 with-beyond b (v ∷ rows) a e (suc i) l h = with-beyond b rows (a - 64) (e - 64) i (omega arith) (omega arith)
+
+-- a solid number fits its bits
+pub solid-lt : (b : Bool) (s : ℕ) → solid b s < 2 ^ s
+solid-lt true s = ones-lt s
+solid-lt false s = pow-pos s
+
+-- so a row that is written stays one of 64 bits
+overlay-fits : (b : Bool) (v lo hi : ℕ) → lo ≤ hi → hi ≤ 64 → v < 2 ^ 64 → overlay b v lo hi < 2 ^ 64
+overlay-fits b v lo hi l u fits =
+    let low = mod-lt v (pow-pos lo) in
+    let middle : (solid b (hi - lo) + 1) * 2 ^ lo ≤ 2 ^ (hi - lo) * 2 ^ lo = mul-le-mul-right (2 ^ lo) (omega (arith, solid-lt b (hi - lo))) in
+    let high : v / 2 ^ hi < 2 ^ (64 - hi) = shr-lt (64 - hi) hi (rw (sub-add-cancel u) fits) in
+    let all : (v / 2 ^ hi + 1) * 2 ^ hi ≤ 2 ^ (64 - hi) * 2 ^ hi = mul-le-mul-right (2 ^ hi) (omega arith) in
+    omega (arith, pow-divides lo hi l, pow-divides hi 64 u)
+
+pub with-fits : (b : Bool) (rows : List ℕ) (a e : ℕ) → a ≤ e → ((i : ℕ) → getD rows i 0 < 2 ^ 64) → (i : ℕ) → getD (withBits b rows a e) i 0 < 2 ^ 64
+unfolding withBits
+with-fits b [] a e l fits i = fits i
+with-fits b (v ∷ rows) a e l fits zero = overlay-fits b v (min a 64) (min e 64) (omega arith) (omega arith) (fits 0)
+with-fits b (v ∷ rows) a e l fits (suc i) = with-fits b rows (a - 64) (e - 64) (omega arith) (λ j. fits (suc j)) i

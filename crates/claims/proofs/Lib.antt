@@ -2,5 +2,4 @@ pub mod Frees
 pub mod Clears
 pub mod Starts
 pub mod Audits
-pub mod Mended
 pub mod Recovers

@@ -5,7 +5,7 @@ use mathlib.Core.List.{List}
 use mathlib.Core.Logic.{inl, inr, ⊎-elim}
 use Prim.Native.Nat.{ℕ, _+_, _-_, _*_, _/_, _^_, _≤_, _<_}
 use native.Mathlib.Decide.{decLt, ℕ-discrete}
-use native.Mathlib.Nat.{add-zero, div-add-mod', mod-lt}
+use native.Mathlib.Nat.{div-add-mod', mod-lt}
 use native.Mathlib.Omega.{arith}
 use lib.Dec.{eqb}
 use lib.Pow.{pow-pos}
@@ -17,8 +17,8 @@ use Rattle.base.specs.Code.{Out, out, unless}
 use Rattle.base.specs.Size.{Huge, rowsOf}
 use Rattle.base.proofs.Sizes.{frames-fit, rows-frames}
 use Rattle.base.proofs.Walks.{all-each, all-of, count-le, count-same, count-none, pick-case}
-use Rattle.base.proofs.Frames.{block-each, block-of}
-use Rattle.base.proofs.Rows.{block-rows}
+use Rattle.base.proofs.Written.{written-stays}
+use Rattle.base.proofs.Frames.{block-each, clear-row}
 use Rattle.shape.specs.Shape.{mark, hugeOf, whole, ceil, rowsNeeded, entriesNeeded}
 use Rattle.shape.specs.Refuse.{Sized}
 use Rattle.shape.specs.State.{Mem, mem, sizes, entryOf, clearOf}
@@ -28,7 +28,7 @@ use Rattle.audit.specs.Audit.{reason}
 use Rattle.audit.proofs.Reasons.{reason-absent, reason-marked, reason-counted}
 use Rattle.recover.specs.declared.Recovered.{Recovered}
 use Rattle.recover.specs.Recover.{recovered, hinders, recoverable, entryAfter, rowAfter, mended, entriesDiffer, bitfieldsDiffer, differing, recoverAll}
-use Rattle.recover.proofs.Runs.{written-stays}
+use Rattle.recover.proofs.Mended.{rows-beyond, entries-beyond, mended-sized, mended-mark, mended-count, mended-row, mended-clear, mended-same}
 use Rattle.staff.specs.Calls.{recover}
 use Rattle.base.proofs.Codes.{done}
 use Rattle.claims.specs.Consistent.{Fits, Marked, Counted, Consistent, free}
@@ -36,7 +36,6 @@ use Rattle.claims.specs.Staff.{RecoverMakesConsistent, RecoverKeepsConsi
 use Rattle.shape.proofs.Present.{present-entry, low-present, row-present, huge-is}
 use Rattle.claims.proofs.Frees.{no-mark, held-mark, held-past}
 use Rattle.claims.proofs.Audits.{consistent-reasonless}
-use Rattle.claims.proofs.Mended.{mended-sized, mended-absent, mended-mark, mended-count, mended-row, mended-beyond, mended-clear, mended-same}
 
 -- ---- what does not hinder
 
@@ -99,14 +98,14 @@ module _ {h n t : ℕ} {m : Mem} (H : Huge h) (fits : Fits m) (s : Sized h n t (
   mended-fits = record {
     rows = λ i. elim (decLt i (rowsNeeded h n)) [
       | yes l ↦ rw (mended-row m s i l) (pick-case (λ v. v < 2 ^ 64) (eqb (entryOf (m .entries) (i / rowsOf h)) mark) (λ _. omega arith) (λ _. fits .rows i))
-      | no l ↦ rw (mended-beyond m s i (omega arith)) (fits .rows i)
+      | no l ↦ rw (rows-beyond h n m i (omega arith)) (fits .rows i)
     ];
     entries = λ x. elim (decLt (x * 2 ^ h) n) [
       | yes l ↦ elim (ℕ-discrete (entryOf (m .entries) x) mark) [
         | yes k ↦ omega (arith, mended-mark m s x l k, fits .entries x)
         | no k ↦ omega (arith, mended-count m s x l k, count-le (bitIs false (m .rows)) (2 ^ h) (x * 2 ^ h), frames-fit H)
       ]
-      | no l ↦ rw (mended-absent m s x (omega arith)) (fits .entries x)
+      | no l ↦ rw (entries-beyond h n m x (omega arith)) (fits .entries x)
     ];
   }
 
@@ -115,7 +114,7 @@ module _ {h n t : ℕ} {m : Mem} (H : Huge h) (fits : Fits m) (s : Sized h n t (
     sized = mended-sized m s;
     fits = mended-fits;
     present = λ x l. elim (ℕ-discrete (entryOf (m .entries) x) mark) [ yes k ↦ inl (mended-marked x l k) | no k ↦ inr (mended-counted x l k) ];
-    absent = λ x l u. mended-absent m s x (omega arith) ∙ easy-absent h n m x (easy x u) (omega arith);
+    absent = λ x l u. entries-beyond h n m x (omega arith) ∙ easy-absent h n m x (easy x u) (omega arith);
   }
 
   mended-free : (f : ℕ) → free h n (mended h n m) f ≡ free h n m f
@@ -160,15 +159,6 @@ unfolding bitfieldsDiffer
 no-bitfields-differ h rs =
     count-none _ (length rs / rowsOf h) 0
     (λ x _ _. ap not (all-of (λ i. eqb (getD rs i 0) (getD rs i 0)) (rowsOf h) (x * rowsOf h) (λ i _ _. eq-eqb (getD rs i 0) (getD rs i 0) refl)))
-
--- a row whose bits are all clear is 0
-clear-row : (rs : List ℕ) → ((i : ℕ) → getD rs i 0 < 2 ^ 64) → (i : ℕ) → ((f : ℕ) → i * 64 ≤ f → f < (i + 1) * 64 → bitIs false rs f ≡ true)
-    → getD rs i 0 ≡ 0
-clear-row rs fits i clear =
-    let zero : eqb (getD rs (i + 0) 0) 0 ≡ true =
-    all-each (λ j. eqb (getD rs (i + j) 0) 0) 1 0
-    (sym (block-rows false rs fits i 1) ∙ block-of false rs (i * 64) (1 * 64) (λ f a b. clear f a (omega arith))) 0 (omega arith) (omega arith) in
-    eqb-true (getD rs i 0) 0 (rw add-zero at zero)
 
 module _ {h n t : ℕ} {m : Mem} (H : Huge h) (c : Consistent h n t m) where
   consistent-recoverable : recoverable h n t m ≡ true

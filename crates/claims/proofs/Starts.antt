@@ -15,7 +15,7 @@ use Rattle.base.specs.Bits.{bitIs}
 use Rattle.base.specs.Size.{Huge}
 use Rattle.base.proofs.Sizes.{frames-fit}
 use Rattle.base.proofs.Frames.{alike}
-use Rattle.base.proofs.Writes.{length-with}
+use Rattle.base.proofs.Writes.{length-with, with-fits}
 use Rattle.base.proofs.Written.{written-in, written-beyond, length-written}
 use Rattle.shape.specs.Shape.{mark, hugeOf, rowsNeeded, entriesNeeded}
 use Rattle.shape.specs.Refuse.{Sized}
@@ -31,7 +31,7 @@ use Rattle.claims.specs.Consistent.{Fits, Marked, Counted, Consistent, f
 use Rattle.claims.specs.Staff.{FreeAllIsConsistent, ReserveAllIsConsistent}
 use Rattle.shape.proofs.Present.{present-entry, present-ends}
 use Rattle.claims.proofs.Frees.{no-mark, is-free, held-mark, held-bit}
-use Rattle.claims.proofs.Clears.{cleared-below, cleared-past, cleared-count, with-fits}
+use Rattle.claims.proofs.Clears.{cleared-below, cleared-past, cleared-count}
 
 module _ {h n t : ℕ} (H : Huge h) (m : Mem) (fits : Fits m) (s : Sized h n t (length (m .rows)) (length (m .entries))) where
   pos : 0 < t

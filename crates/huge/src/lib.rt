@@ -38,7 +38,7 @@ fn write_entries(entries: &mut [u16], v: u16, at: usize, g: usize)
 }
 
 // The entry of a huge frame that is free whole.
-fn whole(h: usize) -> u16
+pub fn whole(h: usize) -> u16
     requires { ⌜ Huge h ⌝ }
     ensures { λ r. ⌜ r ≡ 2 ^ h ⌝ }
 {

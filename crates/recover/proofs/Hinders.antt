@@ -4,12 +4,11 @@ use mathlib.Core.Bool.{Bool, true, false, not}
 use mathlib.Core.Logic.{⊎-elim}
 use mathlib.Core.List.{List}
 use Prim.Native.Nat.{ℕ, _+_, _-_, _*_, _^_, _≤_, _<_}
-use native.Mathlib.Nat.{zero-add, mod-lt, div-add-mod', mul-le-mul-right}
+use native.Mathlib.Nat.{zero-add}
 use native.Mathlib.Decide.{ℕ-discrete, decLt}
 use native.Mathlib.Omega.{arith}
 use lib.Dec.{eqb, lit<}
 use lib.ListN.{length}
-use lib.Pow.{pow-pos, shr-le}
 use borrow.Author.Tests.{ne-eqb}
 use Rattle.base.specs.Walk.{pick, all}
 use Rattle.base.specs.Code.{unless}
@@ -18,42 +17,11 @@ use Rattle.base.proofs.Walks.{all-of, all-not, all-same, all-parts}
 use Rattle.shape.specs.Shape.{mark, hugeOf, whole, entriesNeeded}
 use Rattle.shape.specs.Refuse.{Sized}
 use Rattle.shape.specs.State.{Mem, mem, entryOf, clearOf}
-use Rattle.shape.proofs.Laws.{tree-pos, entries-cover}
+use Rattle.shape.proofs.Present.{last-present, last-needed, before-whole, behind-absent}
 use Rattle.audit.specs.Audit.{reason}
 use Rattle.audit.proofs.Reasons.{reason-absent, reason-marked, reason-counted, reason-whole}
 use Rattle.huge.specs.Huge.{entriesAre}
 use Rattle.recover.specs.Recover.{hinders, recoverable}
-
--- ---- the last present huge frame
-
-module _ {h n t rl el : ℕ} (s : Sized h n t rl el) {last : ℕ} (last-is : last ≡ hugeOf h (n - 1)) where
-  -- it begins below N
-  pub last-present : last * 2 ^ h < n
-  last-present = rw last-is (omega (arith, s .some, div-add-mod' (n - 1) (2 ^ h)))
-
-  -- and reaches N, or ends past it
-  pub last-reaches : n ≤ (last + 1) * 2 ^ h
-  last-reaches = rw last-is (omega (arith, s .some, div-add-mod' (n - 1) (2 ^ h), mod-lt (n - 1) (pow-pos h)))
-
-  -- so its number is small
-  pub last-low : last < 1048576
-  last-low = rw last-is (omega (arith, s .some, s .most, shr-le (n - 1) h))
-
-  -- its entry is needed
-  pub last-needed : last < entriesNeeded h n t
-  last-needed = rw last-is (entries-cover h n t (n - 1) (tree-pos t (s .tree)) (omega (arith, s .some)))
-
-  -- those before it lie wholly below N
-  before-whole : {x : ℕ} → x < last → (x + 1) * 2 ^ h ≤ n
-  before-whole {x} l =
-      let m : (x + 1) * 2 ^ h ≤ last * 2 ^ h = mul-le-mul-right (2 ^ h) (omega arith) in
-      omega (arith, last-present)
-
-  -- those behind it are absent
-  behind-absent : {x : ℕ} → last < x → n ≤ x * 2 ^ h
-  behind-absent {x} l =
-      let m : (last + 1) * 2 ^ h ≤ x * 2 ^ h = mul-le-mul-right (2 ^ h) (omega arith) in
-      omega (arith, last-reaches)
 
 -- ---- which reasons hinder
 
@@ -63,8 +31,8 @@ module _ (h n : ℕ) (m : Mem) (x : ℕ) where
   whole-free w = ⊎-elim (λ e. ap hinders e) (⊎-elim (λ e. ap hinders e) (λ e. ap hinders e)) (reason-whole h n m x w)
 
   -- a present one's is below 5
-  present-low : x * 2 ^ h < n → reason h n m x < 5
-  present-low l = elim (ℕ-discrete (entryOf (m .entries) x) mark) [
+  present-below-five : x * 2 ^ h < n → reason h n m x < 5
+  present-below-five l = elim (ℕ-discrete (entryOf (m .entries) x) mark) [
     | yes k ↦ rw (reason-marked h n m x l k) (lower (whole h n x) (blockIs false (m .rows) (x * 2 ^ h) (2 ^ h)) 2 1 (lit< tt) (lit< tt))
     | no k ↦
         rw (reason-counted h n m x l k)
@@ -109,7 +77,7 @@ module _ {h n t : ℕ} (rs es : List ℕ) (s : Sized h n t (length rs) (length e
         | yes q ↦ ap not (whole-free h n (mem rs es) x (before-whole s last-is q))
         | no q ↦
             let here : x ≡ last = omega arith in
-            let low = present-low h n (mem rs es) last (last-present s last-is) in
+            let low = present-below-five h n (mem rs es) last (last-present s last-is) in
             rw (here, ← r-is, ne-eqb r 1 n1, ne-eqb r 3 n3, ne-eqb r 5 (λ e. omega arith))
       ]
 

@@ -1,4 +1,3 @@
-pub mod Runs
 pub mod Mends
 pub mod Hinders
 pub mod Totals

@@ -8,23 +8,23 @@ use native.Mathlib.Decide.{ℕ-discrete}
 use native.Mathlib.Omega.{arith}
 use lib.Dec.{eqb}
 use lib.Pow.{high}
-use lib.ListN.{length, getD, set, take, drop, replicate, length-drop}
-use lib.Seq.{set-getD, length-take-le}
+use lib.ListN.{length, getD, set, take, drop, replicate}
+use lib.Seq.{set-getD}
 use borrow.Author.Tests.{eq-eqb, ne-eqb, eqb-true, eqb-false}
 use Rattle.base.specs.Walk.{pick, all, written}
 use Rattle.base.specs.Code.{out}
 use Rattle.base.specs.Size.{Huge, rowsOf}
 use Rattle.base.specs.Bits.{bitIs, blockIs}
 use Rattle.base.proofs.Walks.{all-each, all-of, all-same, all-shift, count-le}
-use Rattle.base.proofs.Written.{written-same}
+use Rattle.base.proofs.Written.{written-same, written-stays, solid-part}
 use Rattle.base.proofs.Sizes.{rows-frames, frames-fit}
 use Rattle.base.proofs.Rows.{block-rows}
+use Rattle.base.proofs.Parts.{part-long}
 use Rattle.shape.specs.Shape.{mark}
 use Rattle.shape.specs.State.{mem, entryOf, clearOf}
 use Rattle.audit.proofs.Rows.{all-are-clear, one-is-set}
 use Rattle.recover.specs.Recover.{recovered, entryAfter, rowAfter}
 use Rattle.recover.specs.Mend.{entryDiffers, rowsDiffer, mendedAt}
-use Rattle.recover.proofs.Runs.{written-stays, solid-part}
 
 -- ---- the rows of huge frame x
 
@@ -117,7 +117,7 @@ module _ {h : ℕ} (H : Huge h) (rs es : List ℕ) (x : ℕ) (fits : (j : ℕ) �
         (kept-entry h rs es x mark-after)
       where
         long : length (take k (drop a rs)) ≡ k
-        long = length-take-le k (drop a rs) (rw (ea, ek) (omega (arith, length-drop (x * rowsOf h) rs)))
+        long = part-long rs a k (rw (ea, ek) (omega arith))
 
   -- ---- its entry is a count
   module _ (counted : entryOf es x ≡ mark → ⊥) where

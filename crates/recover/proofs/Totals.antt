@@ -3,7 +3,7 @@ use mathlib.Core.Path.{_≡_, refl, sym, ap, ap₂, _∙_}
 use mathlib.Core.Bool.{Bool, true, false, not}
 use mathlib.Core.List.{List}
 use Prim.Native.Nat.{ℕ, _+_, _-_, _*_, _/_, _^_, _≤_, _<_}
-use native.Mathlib.Nat.{zero-add, mul-comm, mul-le-mul-right, le-div-iff-mul-le, lt-of-mul-lt-mul-right}
+use native.Mathlib.Nat.{zero-add, mul-comm, mul-le-mul-right, le-div-iff-mul-le}
 use native.Mathlib.Omega.{arith}
 use lib.Dec.{eqb}
 use lib.Pow.{pow-pos}
@@ -14,19 +14,18 @@ use Rattle.base.specs.Code.{Out, out}
 use Rattle.base.specs.Size.{Huge, rowsOf}
 use Rattle.base.specs.Bits.{bitIs}
 use Rattle.base.proofs.Walks.{all-of, all-same, count-le, count-same, count-none, count-parts, count-more}
-use Rattle.base.proofs.Written.{written-more, written-same, written-in, written-beyond, length-written}
+use Rattle.base.proofs.Written.{written-more, written-same, written-in, written-beyond, length-written, written-parts}
 use Rattle.base.proofs.Sizes.{rows-frames}
+use Rattle.base.proofs.Frames.{same-bit}
 use Rattle.shape.specs.Shape.{hugeOf, ceil, rowsNeeded}
 use Rattle.shape.specs.Refuse.{Sized}
 use Rattle.shape.specs.State.{Mem, mem, entryOf, clearOf}
-use Rattle.shape.proofs.Laws.{ceil-covers, ceil-least}
+use Rattle.shape.proofs.Present.{present-is, last-present, last-needed}
 use Rattle.shape.proofs.Lent.{present-rows}
 use Rattle.recover.specs.declared.Recovered.{Recovered}
 use Rattle.recover.specs.Recover.{recovered, recoverable, entryAfter, rowAfter, mended, entriesDiffer, bitfieldsDiffer, recoverAll}
 use Rattle.recover.specs.Mend.{entryDiffers, rowsDiffer, mendedAt}
-use Rattle.recover.proofs.Runs.{written-parts}
 use Rattle.recover.proofs.Mends.{Its, its-huge}
-use Rattle.recover.proofs.Hinders.{last-present, last-reaches, last-needed}
 
 -- ---- those that differ before and after a run is written
 
@@ -80,11 +79,10 @@ bitfields-differ h f rs k l =
 module _ {h : ℕ} (H : Huge h) (x : ℕ) (m m′ : Mem) (entry : entryOf (m′ .entries) x ≡ entryOf (m .entries) x)
     (rows : (i : ℕ) → x * rowsOf h ≤ i → getD (m′ .rows) i 0 ≡ getD (m .rows) i 0) where
   same-clear : clearOf h (m′ .rows) x ≡ clearOf h (m .rows) x
-  unfolding bitIs
   same-clear = count-same (bitIs false (m′ .rows)) (bitIs false (m .rows)) (2 ^ h) (x * 2 ^ h) (λ f a _. bit f (rw (rows-frames H) at a))
     where
       bit : (f : ℕ) → x * (rowsOf h * 64) ≤ f → bitIs false (m′ .rows) f ≡ bitIs false (m .rows) f
-      bit f a = rw (rows (f / 64) (omega arith))
+      bit f a = same-bit false (m′ .rows) (m .rows) f (rows (f / 64) (omega arith))
 
   same-entry : entryAfter h m′ x ≡ entryAfter h m x
   same-entry = rw (entry, same-clear)
@@ -159,12 +157,6 @@ module _ {h : ℕ} (m : Mem) {k : ℕ} where
 -- ---- the call
 
 module _ {h n t : ℕ} (H : Huge h) (rs es : List ℕ) (s : Sized h n t (length rs) (length es)) {last : ℕ} (last-is : last ≡ hugeOf h (n - 1)) where
-  -- the present huge frames are those up to the last
-  present-is : last + 1 ≡ ceil n (2 ^ h)
-  present-is =
-      let low : last < ceil n (2 ^ h) = lt-of-mul-lt-mul-right (2 ^ h) (omega (arith, last-present s last-is, ceil-covers n (2 ^ h) (pow-pos h))) in
-      omega (arith, ceil-least n (2 ^ h) (last + 1) (pow-pos h) (last-reaches s last-is))
-
   -- the entry and the rows of each are lent
   pub mend-asked : {rs′ es′ : List ℕ} {e b x : ℕ} → MendAt h (mem rs es) (last + 1) rs′ es′ e b x → x < last + 1
       → (Huge h) × (x < length es′) × ((x + 1) * rowsOf h ≤ length rs′)
@@ -177,7 +169,7 @@ module _ {h n t : ℕ} (H : Huge h) (rs es : List ℕ) (s : Sized h n t (length 
       → {rs′ es′ : List ℕ} {e b x : ℕ} → MendAt h (mem rs es) (last + 1) rs′ es′ e b x → last + 1 ≤ x → out (recovered 0 e b) (mem rs′ es′) ≡ recoverAll h n t (mem rs es)
   unfolding recoverAll mended entryDiffers rowsDiffer
   recovers q going {rs′} {es′} {e} {b} {x} at l =
-      let all-present : x ≡ ceil n (2 ^ h) = omega (arith, at .inside, present-is) in
+      let all-present : x ≡ ceil n (2 ^ h) = omega (arith, at .inside, present-is s last-is) in
       let needed : x * rowsOf h ≡ rowsNeeded h n = rw all-present (mul-comm (ceil n (2 ^ h)) (rowsOf h)) in
       let rows-left : rs′ ≡ written (rowAfter h (mem rs es)) rs 0 (rowsNeeded h n) = at .rows ∙ ap (written (rowAfter h (mem rs es)) rs 0) needed in
       let entries-left : es′ ≡ written (entryAfter h (mem rs es)) es 0 (ceil n (2 ^ h)) = at .entries ∙ ap (written (entryAfter h (mem rs es)) es 0) all-present in

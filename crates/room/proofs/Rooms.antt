@@ -1,52 +1,25 @@
 -- The counts of a tree's room, order by order, as the loops make them. Assumes nothing.
-use mathlib.Core.Path.{_≡_, sym, ap, _∙_}
-use mathlib.Core.Bool.{Bool, true, false}
+use mathlib.Core.Path.{_≡_, ap, _∙_}
+use mathlib.Core.Bool.{true}
 use mathlib.Core.List.{List}
 use Prim.Native.Nat.{ℕ, _+_, _-_, _*_, _/_, _^_, _≤_, _<_}
-use native.Mathlib.Nat.{zero-add, add-zero, mul-le-mul-right, mul-div-cancel}
+use native.Mathlib.Nat.{mul-le-mul-right, mul-div-cancel}
 use native.Mathlib.Omega.{arith}
 use lib.ListN.{length, replicate, length-replicate}
-use lib.Dec.{eqb}
-use lib.Pow.{pow-pos, shr-le}
+use lib.Pow.{pow-pos}
 use borrow.Author.Tests.{lt-ltb, le-ltb, le-leb, lt-leb}
-use Rattle.base.specs.Walk.{pick, count, written}
-use Rattle.base.proofs.Walks.{count-more}
-use Rattle.base.proofs.Sums.{sum-more}
+use Rattle.base.specs.Walk.{count, written}
 use Rattle.base.proofs.Sizes.{pow-divides}
-use Rattle.shape.specs.Shape.{mark, treeLog, isTree}
-use Rattle.shape.specs.State.{entryOf, freeOf}
-use Rattle.shape.proofs.Laws.{tree-pow}
+use Rattle.shape.specs.Shape.{treeLog, isTree}
+use Rattle.shape.proofs.Trees.{log-pow}
 use Rattle.huge.specs.Huge.{entriesAre}
 use Rattle.room.specs.Room.{treeAt, singles, roomAt, orders, roomOf}
 
--- ---- below the huge order
-
--- an entry has at most as many blocks as its number says
-pub blocks-most : (e o : ℕ) {free : ℕ} → free ≡ freeOf e → free / 2 ^ o ≤ e
-blocks-most e o {free} q = omega (arith, shr-le free o, free-most (eqb e mark))
-  where
-    free-most : (b : Bool) → pick b 0 e ≤ e
-    free-most true = omega arith
-    free-most false = omega arith
-
--- one entry more
-pub single-more : (es : List ℕ) (at o i : ℕ) {blocks free : ℕ} → blocks ≡ singles es i at o → free ≡ freeOf (entryOf es (at + i))
-    → blocks + free / 2 ^ o ≡ singles es (i + 1) at o
-single-more es at o i e f = rw (e, f) (sym (sum-more _ i at))
-
--- ---- from the huge order on
+-- ---- groups
 
 -- a group before the c-th ends among the entries of c groups
 pub group-lent : (at g c el first j : ℕ) → at + c * g ≤ el → j < c → first ≡ at + j * g → first + g ≤ el
 group-lent at g c el first j l h e = omega (arith, mul-le-mul-right g h)
-
--- one group more, which is counted where it is free
-module _ (p : ℕ → Bool) (j : ℕ) {blocks : ℕ} (before : blocks ≡ count p j 0) where
-  pub group-free : p j ≡ true → blocks + 1 ≡ count p (j + 1) 0
-  group-free e = rw before (sym (rw (zero-add, e) at (count-more p j 0)))
-
-  pub group-held : p j ≡ false → blocks ≡ count p (j + 1) 0
-  group-held e = rw before (sym (rw (zero-add, e, add-zero) at (count-more p j 0)))
 
 -- ---- an order
 
@@ -60,7 +33,7 @@ module _ (h t : ℕ) {k : ℕ} (es : List ℕ) (at o : ℕ) (tree : isTree t ≡
     pub groups-fill : c * g ≡ t
     groups-fill =
         let e : h + k - o ≡ k - (o - h) = omega arith in
-        rw (c-is, g-is, e) (pow-divides (o - h) k (omega arith) ∙ ap (λ (i : ℕ). 2 ^ i) k-is ∙ tree-pow t tree)
+        rw (c-is, g-is, e) (pow-divides (o - h) k (omega arith) ∙ log-pow t tree k-is)
 
     pub at-groups : {r : ℕ} → r ≡ count (λ j. entriesAre (2 ^ h) es (at + j * g) g) c 0 → r ≡ roomAt h t es at o
     unfolding roomAt

@@ -41,7 +41,7 @@ fn groups(h: usize, entries: &[u16], at: usize, g: usize, c: usize) -> usize
     requires { ⌜ (Huge h) × (at + c * g ≤ length (now entries)) ⌝ }
     ensures { λ r. ⌜ r ≡ count (λ j. entriesAre (2 ^ h) (now (entries .entry)) (at + j * g) g) c 0 ⌝ }
 {
-    let free = 1u16 << h;
+    let free = huge::whole(h);
     let mut blocks = 0;
     let mut first = at;
     let mut j = 0;

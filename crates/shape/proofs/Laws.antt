@@ -2,7 +2,7 @@
 use mathlib.Core.Path.{_≡_, refl, sym}
 use mathlib.Core.Bool.{true}
 use Prim.Native.Nat.{ℕ, _+_, _-_, _*_, _/_, _^_, _≤_, _<_}
-use native.Mathlib.Nat.{mul-comm, mul-pos, div-add-mod', div-div-eq-div-mul, div-lt-iff-lt-mul, lt-div-mul-add}
+use native.Mathlib.Nat.{mul-comm, mul-pos, div-div-eq-div-mul, div-lt-iff-lt-mul, lt-div-mul-add}
 use native.Mathlib.Omega.{arith}
 use lib.Dec.{eqb, lit<}
 use lib.Pow.{pow-pos, pow-lt, pow-mono}
@@ -10,7 +10,7 @@ use borrow.Author.Tests.{eq-eqb, ne-eqb, eqb-true, lt-ltb, ltb-true}
 use Rattle.base.specs.Size.{Huge, rowsOf}
 use Rattle.base.proofs.Walks.{first-hit, first-is}
 use Rattle.base.proofs.Sizes.{rows-frames}
-use Rattle.shape.specs.Shape.{rowOf, bitOf, hugeOf, treeOf, treeLog, isTree, ceil, rowsNeeded, entriesNeeded}
+use Rattle.shape.specs.Shape.{rowOf, hugeOf, treeLog, isTree, ceil, rowsNeeded, entriesNeeded}
 
 -- ---- tree sizes
 
@@ -45,18 +45,6 @@ pow-tree k h = rw (tree-is k h) (lt-ltb k 10 h)
 -- the huge frame of a frame is that of its row
 pub huge-of-row : {h : ℕ} (f : ℕ) → Huge h → hugeOf h f ≡ rowOf f / rowsOf h
 huge-of-row {h} f huge = rw (rows-frames huge, mul-comm (rowsOf h) 64) (sym (div-div-eq-div-mul f 64 (rowsOf h)))
-
--- the tree of a frame is that of its huge frame
-pub tree-of-huge : (h t f : ℕ) → treeOf h t f ≡ hugeOf h f / t
-tree-of-huge h t f = sym (div-div-eq-div-mul f (2 ^ h) t)
-
--- a frame is told by its row and its bit there
-pub frame-of-row : (f : ℕ) → rowOf f * 64 + bitOf f ≡ f
-frame-of-row f = div-add-mod' f 64
-
--- frame j of a huge frame is in that huge frame's row j / 64
-pub row-of-huge : {h : ℕ} (x j : ℕ) → Huge h → rowOf (x * 2 ^ h + j) ≡ x * rowsOf h + j / 64
-row-of-huge x j huge = rw (rows-frames huge) (omega arith)
 
 -- ---- how much is lent
 

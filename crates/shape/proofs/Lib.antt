@@ -4,3 +4,4 @@ pub mod Ceils
 pub mod Present
 pub mod Lent
 pub mod Needed
+pub mod Entries

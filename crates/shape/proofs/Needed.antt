@@ -1,23 +1,29 @@
 -- The entries that n frames need: how many they are, and that what the code computes of their numbers fits. Assumes nothing.
 use mathlib.Core.Path.{_≡_}
-use Prim.Native.Nat.{ℕ, suc, _+_, _-_, _*_, _^_, _≤_, _<_}
-use native.Mathlib.Nat.{mul-le-mul, mul-le-mul-right, div-mul-le-self, lt-of-mul-lt-mul-right}
+use Prim.Native.Nat.{ℕ, suc, _+_, _-_, _*_, _/_, _^_, _≤_, _<_}
+use native.Mathlib.Nat.{mul-comm, mul-div-cancel, mul-le-mul, mul-le-mul-right, div-mul-le-self, lt-of-mul-lt-mul-right}
 use native.Mathlib.Omega.{arith}
 use lib.Pow.{pow-mono}
-use Rattle.base.specs.Size.{Huge}
+use Rattle.base.specs.Size.{Huge, nine, eleven}
 use Rattle.base.proofs.Sizes.{huge-low, frames-fit}
 use Rattle.shape.specs.Refuse.{Sized}
 use Rattle.shape.specs.Shape.{treeLog, ceil, entriesNeeded}
-use Rattle.shape.proofs.Laws.{tree-pow, tree-high}
+use Rattle.shape.proofs.Laws.{tree-pos, tree-high}
+use Rattle.shape.proofs.Trees.{log-pow}
 
 -- a million huge frames are far fewer frames than a word counts
 pub frames-word : {h x : ℕ} → Huge h → x ≤ 1048576 → x * 2 ^ h < 2 ^ 64
 frames-word H l = omega (arith, mul-le-mul l (frames-fit H))
 
+-- fewer than a tree's entries are past those of N
+needed-most : {h : ℕ} (n t : ℕ) → Huge h → n ≤ 1048576 → t ≤ 512 → entriesNeeded h n t ≤ 2560
+needed-most n t nine l m = omega (arith, div-mul-le-self (n + (2 ^ 9 * t - 1)) (2 ^ 9 * t))
+needed-most n t eleven l m = omega (arith, div-mul-le-self (n + (2 ^ 11 * t - 1)) (2 ^ 11 * t))
+
 module _ {h n t rl el : ℕ} (s : Sized h n t rl el) where
   -- the code asks for them with T's logarithm
   pub needed-is : {k r : ℕ} → k ≡ treeLog t → r ≡ entriesNeeded h n (2 ^ k) → r ≡ entriesNeeded h n t
-  needed-is e q = rw (e, tree-pow t (s .tree)) at q
+  needed-is e q = rw (log-pow t (s .tree) e) at q
 
   -- fewer than a tree's frames lie past N, so an entry's number is small
   pub entry-low : {x : ℕ} → Huge h → x < entriesNeeded h n t → x < 1048576
@@ -27,3 +33,19 @@ module _ {h n t rl el : ℕ} (s : Sized h n t rl el) where
       let frames : suc x * 2 ^ h ≤ entriesNeeded h n t * 2 ^ h = mul-le-mul-right (2 ^ h) l in
       let large : 2 ^ 9 ≤ 2 ^ h = pow-mono (huge-low H) in
       lt-of-mul-lt-mul-right (2 ^ h) (omega arith)
+
+  -- the needed entries, as the code has them
+  module _ {log needed : ℕ} (log-is : log ≡ treeLog t) (all-is : needed ≡ entriesNeeded h n (2 ^ log)) where
+    -- are as many trees as n frames need
+    pub needed-trees : needed / 2 ^ log ≡ ceil n (2 ^ h * t)
+    needed-trees =
+        rw (log-pow t (s .tree) log-is, needed-is log-is all-is, mul-comm t (ceil n (2 ^ h * t))) (mul-div-cancel (ceil n (2 ^ h * t)) (tree-pos t (s .tree)))
+
+    pub trees-lent : {trees : ℕ} → trees ≡ needed / 2 ^ log → trees * t ≤ el
+    trees-lent e = rw (e, needed-trees) (omega (arith, s .entries, mul-comm t (ceil n (2 ^ h * t))))
+
+    pub entries-lent : needed ≤ el
+    entries-lent = omega (arith, s .entries, needed-is log-is all-is)
+
+    pub entries-few : Huge h → needed < 65536
+    entries-few H = omega (arith, needed-is log-is all-is, needed-most n t H (s .most) (tree-high t (s .tree)))

@@ -1,12 +1,13 @@
--- A tree size's logarithm is its trailing zeros, which the code takes in place of the definition's walk. Assumes nothing.
+-- A tree size's logarithm: its trailing zeros, which the code takes in place of the definition's walk, and what callers have by it. Assumes nothing.
 use mathlib.Core.Path.{_≡_, refl, sym, ap, _∙_}
 use mathlib.Core.Bool.{Bool, true, false, true≢false}
-use Prim.Native.Nat.{ℕ, zero, suc, _/_, _%_, _^_, _≤_, _<_}
+use Prim.Native.Nat.{ℕ, zero, suc, _+_, _*_, _/_, _%_, _^_, _≤_, _<_}
 use native.Mathlib.Omega.{arith}
 use lib.Dec.{eqb}
 use lib.Count.{trailingZeros}
+use lib.Pow.{pow-add}
 use borrow.Author.Tests.{eq-eqb, ne-eqb, ltb-true}
-use Rattle.shape.specs.Shape.{treeLog, isTree}
+use Rattle.shape.specs.Shape.{treeOf, treeLog, isTree}
 use Rattle.shape.proofs.Laws.{tree-pow, pow-tree}
 
 -- the only set bit of 2 ^ m stands above m zeros
@@ -41,3 +42,24 @@ module _ (t : ℕ) where
       go : (b : Bool) → isTree t ≡ b → b ≡ false
       go true e = absurd (omega (arith, tree-trailing e, ltb-true (treeLog t) 10 e))
       go false e = refl
+
+-- ---- what callers have by it
+
+module _ (t : ℕ) (T : isTree t ≡ true) {log : ℕ} (log-is : log ≡ treeLog t) where
+  pub log-low : log < 10
+  log-low = rw log-is (ltb-true (treeLog t) 10 T)
+
+  pub log-pow : 2 ^ log ≡ t
+  log-pow = rw log-is (tree-pow t T)
+
+  -- a tree's frames
+  pub tree-frames : (h : ℕ) → 2 ^ (h + log) ≡ 2 ^ h * t
+  tree-frames h = rw (← log-pow) (pow-add 2 h log)
+
+  -- the first entry of a frame's tree, of which t are lent from there on
+  module _ (h f : ℕ) {tree : ℕ} (tree-is : tree ≡ treeOf h (2 ^ log) f) where
+    pub tree-first : tree * 2 ^ log ≡ treeOf h t f * t
+    tree-first = rw (tree-is, log-pow)
+
+    pub tree-lent : {el : ℕ} → (treeOf h t f + 1) * t ≤ el → tree * 2 ^ log + t ≤ el
+    tree-lent l = rw tree-first (omega arith)

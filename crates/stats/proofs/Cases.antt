@@ -3,22 +3,23 @@ use mathlib.Core.Path.{_≡_, refl, sym, _∙_}
 use mathlib.Core.Bool.{Bool, true, false}
 use mathlib.Core.List.{List}
 use Prim.Native.Nat.{ℕ, _+_, _*_, _/_, _^_}
-use native.Mathlib.Nat.{zero-add, add-zero, one-mul, mul-one}
+use native.Mathlib.Nat.{one-mul, mul-one}
 use native.Mathlib.Omega.{arith}
 use lib.Dec.{eqb}
 use lib.Pow.{pow-pos}
 use borrow.Author.Tests.{eq-eqb, ne-eqb, eqb-true}
 use Rattle.base.specs.Size.{Huge}
-use Rattle.base.specs.Walk.{pick, count, sum}
+use Rattle.base.specs.Walk.{pick, count}
 use Rattle.base.proofs.Sizes.{frames-fit}
 use Rattle.base.proofs.Walks.{count-same}
+use Rattle.base.proofs.Sums.{sum-one}
 use Rattle.shape.specs.declared.Stats.{Stats}
 use Rattle.shape.specs.Refuse.{Sized}
 use Rattle.shape.specs.Shape.{mark, hugeOf, treeOf, treeLog, isTree, topOrder, ceil, entriesNeeded}
 use Rattle.shape.specs.State.{Mem, mem, counted, entryOf, freeOf}
-use Rattle.shape.proofs.Needed.{needed-is}
+use Rattle.shape.proofs.Trees.{tree-frames, tree-first}
+use Rattle.shape.proofs.Needed.{needed-is, needed-trees}
 use Rattle.stats.specs.Stats.{freeIn, hugeIn, treeFree, statsAll, atFrame, atTree, atOrder}
-use Rattle.stats.proofs.Entries.{tree-frames, tree-first, needed-trees}
 
 -- ---- all entries
 
@@ -29,10 +30,6 @@ count-is-entry {h} H e = go (eqb e mark) refl
     go : (b : Bool) → eqb e mark ≡ b → eqb (pick b 0 e) (2 ^ h) ≡ eqb e (2 ^ h)
     go true q = ne-eqb 0 (2 ^ h) (λ z. omega (arith, pow-pos h)) ∙ sym (ne-eqb e (2 ^ h) (λ z. omega (arith, eqb-true e mark q, frames-fit H)))
     go false q = refl
-
-sum-one : (f : ℕ → ℕ) (i : ℕ) → sum f 1 i ≡ f i
-unfolding sum
-sum-one f i = rw (add-zero i) (zero-add (f i))
 
 -- a tree of one huge frame is free where that is
 tree-of-one : {h : ℕ} → Huge h → (es : List ℕ) (k : ℕ) → count (λ x. eqb (entryOf es x) (2 ^ h)) k 0 ≡ count (treeFree h 1 es) k 0

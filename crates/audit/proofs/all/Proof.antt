@@ -1,8 +1,8 @@
 -- `audit::all` meets its contract. The loop's invariant: no huge frame before x is faulty. Assumes nothing.
 use Prim.Native.Nat.{_-_}
 use native.Mathlib.Omega.{arith}
-use borrow.Author.Tests.{ltb-true}
 use Rattle.shape.specs.State.{mem}
+use Rattle.shape.proofs.Trees.{log-low}
 use Rattle.shape.proofs.Needed.{needed-is}
 use Rattle.audit.proofs.Audits.{AuditAt, audit-start, audit-more, audit-found, audit-passed}
 use Rattle.audit.proofs.all.Statement.{statement}
@@ -20,7 +20,7 @@ tree-log-requires c κs = c .before .before .pre .1 .tree
 entries-needed-requires : tie.Need-entries-needed-requires Inv-loop μ-loop
 entries-needed-requires c κs =
     let p = c .before .before .before .pre in
-    (p .0, omega (arith, ltb-true), p .1 .most)
+    (p .0, log-low _ (p .1 .tree) (c .tree-log .ensures), p .1 .most)
 
 loop-holds : tie.Need-loop-holds Inv-loop μ-loop
 loop-holds c = audit-start (needed-is (c .before .before .before .before .pre .1) (c .before .tree-log .ensures) (c .entries-needed .ensures))

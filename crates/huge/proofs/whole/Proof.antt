@@ -1,9 +1,7 @@
 -- `huge::whole` meets its contract: a huge order is less than an entry's bits. Assumes nothing.
-use mathlib.Core.Path.{_∙_}
-use native.Mathlib.Nat.{one-mul}
 use native.Mathlib.Omega.{arith}
-use lib.Pow.{shl-exact}
 use Rattle.base.proofs.Sizes.{huge-high}
+use Rattle.shape.proofs.Entries.{whole-entry}
 use Rattle.huge.proofs.whole.Statement.{statement}
 use Rattle.huge.proofs.whole.Tie as tie
 
@@ -14,7 +12,7 @@ shl-result : tie.Need-shl-result
 shl-result c = omega (arith, huge-high (c .pre))
 
 returns : tie.Need-returns
-returns c = shl-exact {a = 1} 1 (c .args .h) 16 (omega arith) (omega (arith, huge-high (c .pre))) ∙ one-mul _
+returns c = whole-entry (c .pre)
 
 pub whole-spec : {M : Type 1} → statement M
 whole-spec = tie.close (tie.spec cast-result shl-result returns)

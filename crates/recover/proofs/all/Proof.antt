@@ -4,7 +4,7 @@ use Prim.Native.Nat.{_+_, _-_, _≤_, _<_}
 use native.Mathlib.Omega.{arith}
 use borrow.Author.Needs.{needs}
 use Rattle.shape.specs.State.{mem}
-use Rattle.recover.proofs.Hinders.{last-low}
+use Rattle.shape.proofs.Present.{last-low}
 use Rattle.recover.proofs.Totals.{MendAt, mend-start, mend-more, mend-asked, totals-low, recovers, refuses}
 use Rattle.recover.proofs.all.Statement.{statement}
 use Rattle.recover.proofs.all.Tie as tie

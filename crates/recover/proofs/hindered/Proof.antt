@@ -2,11 +2,12 @@
 use mathlib.Core.Path.{_≡_, ap}
 use native.Mathlib.Omega.{arith}
 use borrow.Author.Needs.{needs}
-use borrow.Author.Tests.{ltb-true}
 use Rattle.shape.specs.Shape.{entriesNeeded}
+use Rattle.shape.proofs.Trees.{log-low}
+use Rattle.shape.proofs.Present.{last-low, last-needed}
 use Rattle.shape.proofs.Needed.{needed-is}
 use Rattle.recover.specs.Recover.{hinders}
-use Rattle.recover.proofs.Hinders.{last-low, last-needed, hindered-last, hindered-absent}
+use Rattle.recover.proofs.Hinders.{hindered-last, hindered-absent}
 use Rattle.recover.proofs.hindered.Statement.{statement}
 use Rattle.recover.proofs.hindered.Tie as tie
 
@@ -40,7 +41,7 @@ tree-log-requires c κs = search needs
 entries-needed-requires : tie.Need-entries-needed-requires
 entries-needed-requires c κs =
     let pre = c .before .before .before .before .before .before .before .pre in
-    (pre .0, omega (arith, ltb-true), pre .1 .most)
+    (pre .0, log-low _ (pre .1 .tree) (c .tree-log .ensures), pre .1 .most)
 
 -- all the entries that are needed
 all-needed : (c : tie.After-entries-needed) → let a = c .before .before .before .before .before .before .before .before .args in

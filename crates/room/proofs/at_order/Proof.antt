@@ -1,9 +1,9 @@
 -- `room::at_order` meets its contract: below the huge order by free counts, up to the top order by groups, and none above. Assumes nothing.
 use native.Mathlib.Omega.{arith}
 use borrow.Author.Needs.{needs}
-use borrow.Author.Tests.{ltb-true}
 use Rattle.base.proofs.Sizes.{huge-high}
 use Rattle.shape.proofs.Laws.{tree-high}
+use Rattle.shape.proofs.Trees.{log-low}
 use Rattle.room.proofs.Rooms.{at-singles, at-groups, at-none, groups-fill}
 use Rattle.room.proofs.at_order.Statement.{statement}
 use Rattle.room.proofs.at_order.Tie as tie
@@ -21,17 +21,17 @@ returns c =
 add-if2 : tie.Need-add-if2
 add-if2 c =
     let pre = c .before .before .pre in
-    omega (arith, huge-high (pre .0), ltb-true)
+    omega (arith, huge-high (pre .0), log-low _ (pre .1) (pre .2))
 
 size-requires : tie.Need-size-requires
 size-requires c κs =
     let pre = c .before .before .before .pre in
-    omega (arith, huge-high (pre .0), ltb-true)
+    omega (arith, huge-high (pre .0), log-low _ (pre .1) (pre .2))
 
 add-size : tie.Need-add-size
 add-size c =
     let pre = c .before .before .before .before .pre in
-    omega (arith, huge-high (pre .0), ltb-true)
+    omega (arith, huge-high (pre .0), log-low _ (pre .1) (pre .2))
 
 sub-size : tie.Need-sub-size
 sub-size c = search needs
@@ -39,7 +39,7 @@ sub-size c = search needs
 size-requires-2 : tie.Need-size-requires-2
 size-requires-2 c κs =
     let pre = c .before .before .before .before .pre in
-    omega (arith, huge-high (pre .0), ltb-true)
+    omega (arith, huge-high (pre .0), log-low _ (pre .1) (pre .2))
 
 groups-requires : tie.Need-groups-requires
 groups-requires c κs =

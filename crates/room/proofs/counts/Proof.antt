@@ -1,15 +1,16 @@
 -- `room::counts` meets its contract. The loop's invariant: the counts of the orders before this one are filled in, and the others are 0. Assumes nothing.
 use mathlib.Core.Path.{_≡_, refl, _∙_}
-use Prim.Native.Nat.{_-_, _≤_}
+use Prim.Native.Nat.{_+_, _*_, _^_, _-_, _≤_}
 use native.Mathlib.Nat.{zero-add}
 use native.Mathlib.Omega.{arith}
 use borrow.Author.Needs.{needs}
 use lib.ListN.{length, length-set}
 use Rattle.base.specs.Walk.{written}
 use Rattle.base.proofs.Written.{written-more}
+use Rattle.shape.proofs.Trees.{log-low, tree-first, tree-lent}
+use Rattle.shape.proofs.Lent.{frame-tree}
 use Rattle.room.specs.Room as spec
 use Rattle.room.proofs.Rooms.{room-filled}
-use Rattle.room.proofs.Trees.{log-low, tree-at, tree-word, tree-lent}
 use Rattle.room.proofs.counts.Statement.{statement}
 use Rattle.room.proofs.counts.Tie as tie
 
@@ -26,13 +27,20 @@ tree-log-requires c κs = c .before .before .pre .1 .2 .sized .tree
 frame-tree-requires : tie.Need-frame-tree-requires Inv-loop μ-loop
 frame-tree-requires c κs =
     let pre = c .before .before .before .pre in
-    (pre .0, log-low (pre .1 .2) (c .tree-log .ensures) refl)
+    (pre .0, log-low _ (pre .1 .2 .sized .tree) (c .tree-log .ensures))
+
+-- the entries of the frame's tree are lent
+lent : (a : tie.After-frame-tree Inv-loop μ-loop) → let s = a .before .before .before .before .args in
+    a .frame-tree .result * 2 ^ a .before .tree-log .result + s .t ≤ length (s .entries .now)
+lent a =
+    let k = a .before in
+    let pre = k .before .before .before .pre in
+    tree-lent _ (pre .1 .2 .sized .tree) (k .tree-log .ensures) _ _ (a .frame-tree .ensures) (frame-tree (pre .0) (pre .1 .2))
 
 tree-huge-requires : tie.Need-tree-huge-requires Inv-loop μ-loop
 tree-huge-requires c κs =
-    let pre = c .before .before .before .before .pre in
-    let k = c .before .tree-log .ensures in
-    (log-low (pre .1 .2) k refl, tree-word (pre .1 .2) k (c .frame-tree .ensures))
+    let k = c .before in
+    (log-low _ (k .before .before .before .pre .1 .2 .sized .tree) (k .tree-log .ensures), omega (arith, lent c))
 
 loop-holds : tie.Need-loop-holds Inv-loop μ-loop
 unfolding written
@@ -43,7 +51,7 @@ at-order-requires c κs =
     let a = c .before .before in
     let k = a .before .before in
     let pre = k .before .before .before .pre in
-    (pre .0, pre .1 .2 .sized .tree, k .tree-log .ensures, tree-lent (pre .1 .2) (k .tree-log .ensures) (a .before .frame-tree .ensures) (pre .0) (a .tree-huge .ensures))
+    (pre .0, pre .1 .2 .sized .tree, k .tree-log .ensures, rw (a .tree-huge .ensures) (lent (a .before)))
 
 mul-counts : tie.Need-mul-counts Inv-loop μ-loop
 mul-counts c = search needs
@@ -79,7 +87,7 @@ returns c =
     let pre = k .before .before .before .pre in
     let s = k .before .before .before .args in
     let first : b .tree-huge .result ≡ spec.treeAt (s .h) (s .t) (s .frame) =
-    b .tree-huge .ensures ∙ tree-at (pre .1 .2) (k .tree-log .ensures) (b .before .frame-tree .ensures) in
+    b .tree-huge .ensures ∙ tree-first _ (pre .1 .2 .sized .tree) (k .tree-log .ensures) _ _ (b .before .frame-tree .ensures) in
     room-filled _ _ _ _ (pre .2) first (a .loop .inv .2) (omega arith)
 
 pub counts-spec : {M : Type 1} → statement M

@@ -5,7 +5,9 @@ use lib.ListN.{length}
 use borrow.Author.Needs.{needs}
 use Rattle.base.proofs.Sizes.{huge-high}
 use Rattle.shape.proofs.Laws.{tree-high}
-use Rattle.stats.proofs.Entries.{whole-entry, log-low, trees-lent, entries-lent, entries-few}
+use Rattle.shape.proofs.Trees.{log-low}
+use Rattle.shape.proofs.Needed.{trees-lent, entries-lent, entries-few}
+use Rattle.shape.proofs.Entries.{whole-entry}
 use Rattle.stats.proofs.Cases.{all-of-trees, all-of-one}
 use Rattle.stats.proofs.all.Statement.{statement}
 use Rattle.stats.proofs.all.Tie as tie

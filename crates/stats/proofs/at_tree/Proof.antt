@@ -5,7 +5,7 @@ use lib.ListN.{length}
 use borrow.Author.Needs.{needs}
 use Rattle.base.proofs.Sizes.{huge-high}
 use Rattle.shape.proofs.Laws.{tree-high}
-use Rattle.stats.proofs.Entries.{log-low, tree-lent}
+use Rattle.shape.proofs.Trees.{log-low, tree-lent}
 use Rattle.stats.proofs.Cases.{tree-counted}
 use Rattle.stats.proofs.at_tree.Statement.{statement}
 use Rattle.stats.proofs.at_tree.Tie as tie

@@ -5,8 +5,8 @@ use native.Mathlib.Omega.{arith}
 use lib.Dec.{eqb}
 use borrow.Author.Needs.{needs}
 use borrow.Author.Tests.{eq-eqb, ne-eqb}
+use Rattle.base.proofs.Walks.{CountAt, count-start, count-hit, count-miss, count-end}
 use Rattle.shape.specs.State.{entryOf}
-use Rattle.stats.proofs.Counts.{CountAt, count-start, count-hit, count-miss, count-end}
 use Rattle.stats.proofs.count_of.Statement.{statement}
 use Rattle.stats.proofs.count_of.Tie as tie
 

@@ -1,5 +1,5 @@
 -- `stats::free` meets its contract. Assumes nothing.
-use Rattle.stats.proofs.Counts.{free-mark, free-own}
+use Rattle.shape.proofs.Entries.{free-mark, free-own}
 use Rattle.stats.proofs.free.Statement.{statement}
 use Rattle.stats.proofs.free.Tie as tie
 

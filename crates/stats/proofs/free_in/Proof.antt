@@ -2,14 +2,15 @@
 use Prim.Native.Nat.{_-_, _≤_}
 use native.Mathlib.Omega.{arith}
 use borrow.Author.Needs.{needs}
+use Rattle.base.proofs.Sums.{SumAt, sum-start, sum-turn, sum-end}
 use Rattle.shape.specs.Shape.{mark}
 use Rattle.shape.specs.State.{entryOf, freeOf}
-use Rattle.stats.proofs.Counts.{free-most, SumAt, sum-start, sum-turn, sum-end}
+use Rattle.shape.proofs.Entries.{free-most}
 use Rattle.stats.proofs.free_in.Statement.{statement}
 use Rattle.stats.proofs.free_in.Tie as tie
 
 abbrev Inv-loop : tie.InvT-loop
-Inv-loop entries k at sum₀ i₀ sum i = SumAt (λ x. freeOf (entryOf entries x)) at k i sum
+Inv-loop entries k at sum₀ i₀ sum i = SumAt (λ x. freeOf (entryOf entries x)) mark at k i sum
 
 abbrev μ-loop : tie.MeasureT-loop
 μ-loop entries k at sum₀ i₀ sum i = k - i

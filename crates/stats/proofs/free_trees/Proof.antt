@@ -7,8 +7,8 @@ use native.Mathlib.Omega.{arith}
 use lib.Dec.{eqb}
 use borrow.Author.Needs.{needs}
 use borrow.Author.Tests.{eq-eqb, ne-eqb}
+use Rattle.base.proofs.Walks.{CountAt, count-start, count-hit, count-miss, count-end}
 use Rattle.stats.specs.Stats.{freeIn}
-use Rattle.stats.proofs.Counts.{CountAt, count-start, count-hit, count-miss, count-end}
 use Rattle.stats.proofs.free_trees.Statement.{statement}
 use Rattle.stats.proofs.free_trees.Tie as tie
 

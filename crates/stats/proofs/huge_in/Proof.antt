@@ -5,14 +5,15 @@ use native.Mathlib.Nat.{div-le-self}
 use native.Mathlib.Omega.{arith}
 use borrow.Author.Needs.{needs}
 use Rattle.base.proofs.Sizes.{huge-high}
+use Rattle.base.proofs.Sums.{SumAt, sum-start, sum-turn, sum-end}
 use Rattle.shape.specs.Shape.{mark}
 use Rattle.shape.specs.State.{entryOf, freeOf}
-use Rattle.stats.proofs.Counts.{free-most, SumAt, sum-start, sum-turn, sum-end}
+use Rattle.shape.proofs.Entries.{free-most}
 use Rattle.stats.proofs.huge_in.Statement.{statement}
 use Rattle.stats.proofs.huge_in.Tie as tie
 
 abbrev Inv-loop : tie.InvT-loop
-Inv-loop h entries k at sum₀ i₀ sum i = SumAt (λ x. freeOf (entryOf entries x) / 2 ^ h) at k i sum
+Inv-loop h entries k at sum₀ i₀ sum i = SumAt (λ x. freeOf (entryOf entries x) / 2 ^ h) mark at k i sum
 
 abbrev μ-loop : tie.MeasureT-loop
 μ-loop h entries k at sum₀ i₀ sum i = k - i

@@ -1,0 +1,28 @@
+-- One entry: its free count, and the entry of a huge frame that is free whole. Assumes nothing.
+use mathlib.Core.Path.{_≡_}
+use Prim.Native.Nat.{ℕ, _*_, _%_, _^_, _≤_, _<_, zero-le}
+use native.Mathlib.Omega.{arith}
+use lib.Dec.{eqb}
+use borrow.Author.Tests.{eq-eqb, ne-eqb}
+use Rattle.base.specs.Size.{Huge}
+use Rattle.base.proofs.Masks.{shl-one}
+use Rattle.base.proofs.Sizes.{huge-high}
+use Rattle.base.proofs.Walks.{pick-case}
+use Rattle.shape.specs.Shape.{mark}
+use Rattle.shape.specs.State.{freeOf}
+
+-- the mark's free count is 0, and any other entry's is the entry
+module _ {e : ℕ} where
+  pub free-mark : e ≡ mark → 0 ≡ freeOf e
+  free-mark q = rw (eq-eqb e mark q)
+
+  pub free-own : (e ≡ mark → ⊥) → e ≡ freeOf e
+  free-own q = rw (ne-eqb e mark q)
+
+-- an entry has 16 bits, so its free count is at most what the mark is as a number
+pub free-most : (e : ℕ) → e < 2 ^ 16 → freeOf e ≤ mark
+free-most e l = pick-case (λ (x : ℕ). x ≤ mark) (eqb e mark) (λ _. zero-le) (λ _. omega arith)
+
+-- the entry of a huge frame that is free whole has room for its count: what `1 << h` is in 16 bits
+pub whole-entry : {h : ℕ} → Huge h → 1 * 2 ^ h % 2 ^ 16 ≡ 2 ^ h
+whole-entry {h} H = shl-one 16 h (omega (arith, huge-high H))
