@@ -11,7 +11,7 @@ use Rattle.base.specs.Walk.{count}
 use Rattle.base.specs.Bits.{bitIs, blockIs}
 use Rattle.base.specs.Size.{Huge, rowsOf}
 use Rattle.base.proofs.Walks.{count-full}
-use Rattle.base.proofs.Sizes.{rows-frames, frames-fit}
+use Rattle.base.proofs.Sizes.{rows-frames, first-row, frames-fit}
 use Rattle.base.proofs.Frames.{block-of, zeros-block}
 use Rattle.base.proofs.Parts.{part-long, zeros-part, block-part}
 use Rattle.shape.specs.State.{partOf, clearOf}
@@ -58,7 +58,7 @@ module _ {h : ℕ} (H : Huge h) (rs : List ℕ) (n x k : ℕ) (lent : (x + 1) * 
 
   -- whose bits end where the huge frame does
   first-bits : length (take (k - 0) rs) * 64 ≡ (x + 1) * 2 ^ h
-  first-bits = rw (first-long, rows-frames H, mul-assoc)
+  first-bits = rw first-long (first-row H (x + 1))
 
   -- few enough for a word, and bit n among them
   pub past-asked : x < 1048576 → n < (x + 1) * 2 ^ h → (n < length (take (k - 0) rs) * 64) × (length (take (k - 0) rs) * 64 < 2 ^ 64)

@@ -1,12 +1,13 @@
 -- Codes checked in their order: a check that stops, one that passes, and what passing all of them means. Assumes nothing.
 use mathlib.Core.Path.{_≡_, refl, sym, _∙_}
-use mathlib.Core.Bool.{Bool, true, false, _&&_, true≢false}
+use mathlib.Core.Bool.{Bool, true, false}
 use Prim.Native.Nat.{ℕ, zero, suc}
 use native.Mathlib.Omega.{arith}
 use lib.Dec.{eqb}
 use borrow.Author.Tests.{eq-eqb, ne-eqb, eqb-true, eqb-false}
 use Rattle.base.specs.Walk.{pick}
 use Rattle.base.specs.Code.{unless, orElse, Out, out, unrefused}
+use Rattle.base.proofs.Walks.{pick-both}
 
 -- a code that is not 0 is the answer
 pub stops : {r a : ℕ} (b : ℕ) → r ≡ a → (r ≡ 0 → ⊥) → r ≡ orElse a b
@@ -38,6 +39,12 @@ unfolding orElse
 regrouped zero b c = refl
 regrouped (suc a) b c = simp (ne-eqb (suc a) 0 (λ e. omega arith))
 
+-- a code behind which there is none
+pub or-none : (a : ℕ) → orElse a 0 ≡ a
+unfolding orElse
+or-none zero = refl
+or-none (suc a) = rw (ne-eqb (suc a) 0 (λ e. omega arith))
+
 -- a test that holds gives no code: r is what the code's own test answers
 pub no-code : {r b : Bool} (c : ℕ) → r ≡ b → r ≡ true → 0 ≡ unless b c
 no-code c e q = rw (sym e ∙ q)
@@ -45,11 +52,6 @@ no-code c e q = rw (sym e ∙ q)
 -- and one that fails gives its code
 pub its-code : {r b : Bool} (c : ℕ) → r ≡ b → r ≡ false → c ≡ unless b c
 its-code c e q = rw (sym e ∙ q)
-
--- two tests that both hold
-pub both : (x y : Bool) → (x && y) ≡ true → (x ≡ true) × (y ≡ true)
-both true y e = (refl, e)
-both false y e = absurd (true≢false (sym e))
 
 -- ---- a call refused with the memory as it was, or done
 
@@ -69,6 +71,10 @@ module _ {A : Type 0} (does : A) where
 
   pub answered : {c : ℕ} (refusal : A) {x : A} → c ≡ 0 → x ≡ does → x ≡ pick (eqb c 0) does refusal
   answered {c} refusal z e = rw (eq-eqb c 0 z) e
+
+-- two calls that are refused by one code, or answer alike
+pub answer-alike : {A : Type 0} (word : ℕ → A) {c d : ℕ} {x z : A} → c ≡ d → (c ≡ 0 → x ≡ z) → pick (eqb c 0) x (word c) ≡ pick (eqb d 0) z (word d)
+answer-alike word {c} e f = rw (← e) (pick-both _≡_ (eqb c 0) (λ q. f (eqb-true c 0 q)) (λ _. refl))
 
 -- a call that answers the code 0 was not refused; c is the refusals' code
 pub done : {A : Type 0} (does refusal : A) {c : ℕ} (code : A → ℕ) → code refusal ≡ c → code (pick (eqb c 0) does refusal) ≡ 0

@@ -4,15 +4,15 @@ use mathlib.Core.Bool.{Bool, true, false, not}
 use mathlib.Core.List.{List}
 use mathlib.Core.Logic.{_⊎_, inl, inr, ⊎-elim}
 use Prim.Native.Nat.{ℕ, _+_, _-_, _*_, _/_, _%_, _^_, _≤_, _<_, min}
-use native.Mathlib.Nat.{sub-add-cancel, mod-lt, zero-div, eq-zero-or-pos}
+use native.Mathlib.Nat.{add-zero, sub-add-cancel, mod-lt, zero-div, eq-zero-or-pos}
 use native.Mathlib.Omega.{arith}
 use lib.Dec.{eqb}
 use lib.Pow.{pow-pos, pow-add, high, low, field, mod-mod-pow, shr-shr, ones-lt, ones-split}
 use lib.ListN.{length, getD}
-use borrow.Author.Tests.{eq-eqb, ne-eqb, eqb-true}
-use Rattle.base.specs.Walk.{pick, count}
+use borrow.Author.Tests.{eq-eqb, ne-eqb, eqb-true, not-true}
+use Rattle.base.specs.Walk.{pick, all, count}
 use Rattle.base.specs.Bits.{bitsAt, solid, bitIs, blockIs, overlay, withBits}
-use Rattle.base.proofs.Walks.{all-each, all-of, count-full, count-of, count-none, count-same, count-three}
+use Rattle.base.proofs.Walks.{all-each, all-of, all-shift, count-full, count-of, count-none, count-same, count-three}
 use Rattle.base.proofs.Rows.{whole-row}
 use Rattle.base.proofs.Writes.{solid-lt, getD-with}
 
@@ -165,16 +165,17 @@ module _ (b : Bool) (rows : List ℕ) (a e : ℕ) (h : a ≤ e) where
 -- ---- blocks
 
 module _ (b : Bool) (rows : List ℕ) (p s : ℕ) where
-  -- a block is all b exactly if each of its frames' bits is
-  pub block-each : blockIs b rows p s ≡ true → (f : ℕ) → p ≤ f → f < p + s → bitIs b rows f ≡ true
+  -- a block is all b exactly if a walk over its frames' bits says so
+  pub block-walk : blockIs b rows p s ≡ all (bitIs b rows) s p
   unfolding blockIs
-  block-each e f lo hi =
-      let w : p + (f - p) ≡ f = omega arith in
-      ap (bitIs b rows) (sym w) ∙ all-each (λ j. bitIs b rows (p + j)) s 0 e (f - p) (omega arith) (omega arith)
+  block-walk = all-shift (bitIs b rows) p s 0 ∙ ap (all (bitIs b rows) s) (add-zero p)
+
+  -- and so if each of them is b
+  pub block-each : blockIs b rows p s ≡ true → (f : ℕ) → p ≤ f → f < p + s → bitIs b rows f ≡ true
+  block-each e = all-each (bitIs b rows) s p (sym block-walk ∙ e)
 
   pub block-of : ((f : ℕ) → p ≤ f → f < p + s → bitIs b rows f ≡ true) → blockIs b rows p s ≡ true
-  unfolding blockIs
-  block-of all-are = all-of (λ j. bitIs b rows (p + j)) s 0 (λ j _ l. all-are (p + j) (omega arith) (omega arith))
+  block-of each = block-walk ∙ all-of (bitIs b rows) s p each
 
 -- a bit that is set is not clear
 pub set-not-clear : (rows : List ℕ) (f : ℕ) → bitIs true rows f ≡ not (bitIs false rows f)
@@ -189,11 +190,7 @@ set-not-clear rows f = go (getD rows (f / 64) 0 / 2 ^ (f % 64))
 
 -- the clear bits of a block that is all b: none, or its size
 pub zeros-block : (b : Bool) (rows : List ℕ) (p s : ℕ) → blockIs b rows p s ≡ true → count (bitIs false rows) s p ≡ pick b 0 s
-zeros-block true rows p s e = count-none (bitIs false rows) s p (λ f lo hi. clear (bitIs false rows f) (sym (set-not-clear rows f) ∙ block-each true rows p s e f lo hi))
-  where
-    clear : (t : Bool) → not t ≡ true → t ≡ false
-    clear true e = sym e
-    clear false e = refl
+zeros-block true rows p s e = count-none (bitIs false rows) s p (λ f lo hi. not-true (bitIs false rows f) (sym (set-not-clear rows f) ∙ block-each true rows p s e f lo hi))
 zeros-block false rows p s e = count-of (bitIs false rows) s p (block-each false rows p s e)
 
 -- where all of n frames are clear, every block in them is

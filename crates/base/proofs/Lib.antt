@@ -1,11 +1,15 @@
+pub mod Tests
 pub mod Walks
 pub mod Sums
+pub mod Counting
 pub mod Written
 pub mod Codes
-pub mod Sizes
 pub mod Rests
+pub mod Sizes
 pub mod Masks
 pub mod Rows
 pub mod Writes
 pub mod Frames
+pub mod SameRows
+pub mod Clears
 pub mod Parts

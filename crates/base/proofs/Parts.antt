@@ -5,8 +5,8 @@ use mathlib.Core.List.{List, [], _∷_, _++_}
 use Prim.Native.Nat.{ℕ, suc, _+_, _-_, _*_, _/_, _%_, _≤_, _<_, min}
 use native.Mathlib.Nat.{add-zero, zero-add}
 use native.Mathlib.Omega.{arith}
-use lib.ListN.{length, take, drop, take-append-drop, length-drop}
-use lib.Seq.{getD-take, getD-drop, length-take-le}
+use lib.ListN.{length, getD, take, drop, take-append-drop, length-drop}
+use lib.Seq.{getD-take, getD-drop, length-take-le, ext-getD}
 use Rattle.base.specs.Walk.{count}
 use Rattle.base.specs.Bits.{bitIs, blockIs, overlay, withBits}
 use Rattle.base.proofs.Walks.{all-same, count-same, count-shift}
@@ -17,6 +17,18 @@ use Rattle.base.proofs.Writes.{with-none}
 pub part-long : (rows : List ℕ) (a k : ℕ) → a + k ≤ length rows → length (take k (drop a rows)) ≡ k
 part-long rows a k fits = length-take-le k (drop a rows) (omega (arith, length-drop a rows))
 
+-- each of them is one of all rows
+part-row : (rows : List ℕ) (a k i : ℕ) → i < k → getD (take k (drop a rows)) i 0 ≡ getD rows (a + i) 0
+part-row rows a k i l = getD-take k (drop a rows) i 0 l ∙ getD-drop a rows i 0
+
+-- so a part of two lists, alike in each of its rows, is the same
+pub part-same : (l r : List ℕ) (a k : ℕ) → a + k ≤ length l → a + k ≤ length r → ((i : ℕ) → i < k → getD l (a + i) 0 ≡ getD r (a + i) 0)
+    → take k (drop a l) ≡ take k (drop a r)
+part-same l r a k p q e =
+    let long = part-long l a k p in
+    ext-getD 0 (take k (drop a l)) (take k (drop a r)) (long ∙ sym (part-long r a k q))
+    (λ i u. let v : i < k = omega arith in part-row l a k i v ∙ e i v ∙ sym (part-row r a k i v))
+
 -- frame f of the k rows from row a on is frame a * 64 + f of all rows
 pub bit-part : (b : Bool) (rows : List ℕ) (a k f : ℕ) → f < k * 64 → bitIs b (take k (drop a rows)) f ≡ bitIs b rows (a * 64 + f)
 unfolding bitIs
@@ -24,7 +36,7 @@ bit-part b rows a k f h =
     let low : f / 64 < k = omega arith in
     let r : (a * 64 + f) / 64 ≡ a + f / 64 = omega arith in
     let q : (a * 64 + f) % 64 ≡ f % 64 = omega arith in
-    rw (r, q, getD-take k (drop a rows) (f / 64) 0 low, getD-drop a rows (f / 64) 0)
+    rw (r, q, part-row rows a k (f / 64) low)
 
 -- the clear bits of k rows from row a on, counted in the part that holds them
 pub zeros-part : (rs : List ℕ) (a k : ℕ) → count (bitIs false (take k (drop a rs))) (k * 64) 0 ≡ count (bitIs false rs) (k * 64) (a * 64)

@@ -1,8 +1,25 @@
--- Remainders: of a sum, of whole rows, around the end of a wrap, and where a multiple ends. Assumes nothing.
-use mathlib.Core.Path.{_≡_, sym, _∙_}
-use Prim.Native.Nat.{ℕ, _+_, _*_, _/_, _%_, _≤_, _<_}
+-- Quotients and remainders: by where a number lies, of a sum, of whole rows, around the end of a wrap, and where a multiple ends. Assumes nothing.
+use mathlib.Core.Path.{_≡_, sym, ap, _∙_}
+use mathlib.Core.Logic.{_⊎_, inl, inr}
+use Prim.Native.Nat.{ℕ, _+_, _-_, _*_, _/_, _%_, _≤_, _<_}
+use native.Mathlib.Decide.{decLt}
 use native.Mathlib.Nat.{mod-lt, mod-eq-of-lt, mul-add-mod-self-right, mul-mod-left, div-add-mod', mul-le-mul-right, mul-assoc, lt-of-mul-lt-mul-right}
 use native.Mathlib.Omega.{arith}
+use lib.Arith.{digits-lt, digits-div}
+
+-- the numbers of the q-th run of k
+pub quotient-is : (k q n : ℕ) → q * k ≤ n → n < q * k + k → n / k ≡ q
+quotient-is k q n a b = let e : q * k + (n - q * k) ≡ n = omega arith in ap (λ (x : ℕ). x / k) (sym e) ∙ digits-div q (omega arith)
+
+-- of two numbers of two digits, the lesser has the lesser first digit, or the same and the lesser second
+pub digits-less : (k a b c d : ℕ) → d < k → a * k + b < c * k + d → (a < c) ⊎ ((a ≡ c) × (b < d))
+digits-less k a b c d u less = elim (decLt a c) [
+  | yes q ↦ inl q
+  | no q ↦ elim (decLt c a) [
+    | yes r ↦ absurd (omega (arith, digits-lt r u))
+    | no r ↦ let e : a ≡ c = omega arith in inr (e, omega (arith, ap (λ (x : ℕ). x * k) e))
+  ]
+]
 
 -- a summand taken modulo n
 pub mod-sum : (a b n : ℕ) → (a % n + b) % n ≡ (a + b) % n

@@ -1,33 +1,26 @@
 -- A block of bits, row by row: tested within one row and over whole rows, and its clear bits counted (Writes has what is stored). Assumes nothing.
-use mathlib.Core.Path.{_≡_, refl, sym, ap, _∙_, subst}
+use mathlib.Core.Path.{_≡_, refl, sym, ap, _∙_}
 use mathlib.Core.Bool.{Bool, true, false}
 use mathlib.Core.List.{List}
 use Prim.Native.Nat.{ℕ, zero, suc, _+_, _-_, _*_, _/_, _%_, _^_, _≤_, _<_}
-use native.Mathlib.Nat.{add-zero, zero-add, add-mul, mul-le-mul-right, sub-add-cancel, div-add-mod', div-one, mod-eq-of-lt, add-suc}
+use native.Mathlib.Nat.{add-zero, zero-add, div-one, mod-eq-of-lt, add-suc}
 use native.Mathlib.Numerals.{add-one}
 use native.Mathlib.Omega.{arith}
 use lib.Dec.{eqb}
-use lib.Pow.{pow-pos, shr-shr, shr-lt, mod-pow-add, mod-mod-pow}
+use lib.Pow.{pow-pos, shr-shr, mod-pow-add}
 use lib.Count.{ones, ones-step, ones-ones}
 use lib.ListN.{getD}
 use borrow.Author.Tests.{eq-eqb, ne-eqb, eqb-true, eqb-false}
 use Rattle.base.specs.Walk.{pick, all, count}
 use Rattle.base.specs.Bits.{bitsAt, solid, bitIs, blockIs}
-use Rattle.base.proofs.Sizes.{pow-divides}
+use Rattle.base.proofs.Sizes.{pow-divides, rest-by-less, place-ends}
 use Rattle.base.proofs.Walks.{all-same, all-parts, all-shift, count-same, count-shift}
 
 -- ---- a block of order o: in one row to order 6, and 2 ^ (o - 6) rows from there on
 
 -- an aligned block that is no longer than a row ends in the row in which it starts
 pub row-fits : (p o : ℕ) → o ≤ 6 → p % 2 ^ o ≡ 0 → p % 64 + 2 ^ o ≤ 64
-row-fits p o h e =
-    let w : 6 - o + o ≡ 6 = sub-add-cancel h in
-    let z : p % 64 % 2 ^ o ≡ 0 = sym (ap (λ (k : ℕ). p % 2 ^ k % 2 ^ o) w) ∙ mod-mod-pow p (6 - o) o ∙ e in
-    let d : p % 64 / 2 ^ o * 2 ^ o + p % 64 % 2 ^ o ≡ p % 64 = div-add-mod' (p % 64) (2 ^ o) in
-    let l : p % 64 / 2 ^ o < 2 ^ (6 - o) = shr-lt (6 - o) o (subst (λ (k : ℕ). p % 64 < 2 ^ k) (sym w) (omega arith)) in
-    let m : (p % 64 / 2 ^ o + 1) * 2 ^ o ≤ 2 ^ (6 - o) * 2 ^ o = mul-le-mul-right (2 ^ o) (omega arith) in
-    let t = pow-divides o 6 h in
-    omega (arith, add-mul (p % 64 / 2 ^ o) 1 (2 ^ o))
+row-fits p o h e = place-ends p o 6 h e
 
 -- from order 6 on a block is whole rows
 pub rows-size : (o : ℕ) → 6 ≤ o → 2 ^ o ≡ 2 ^ (o - 6) * 64
@@ -36,8 +29,7 @@ rows-size o h = sym (pow-divides 6 o h)
 -- and starts with a row
 pub rows-start : (p o : ℕ) → 6 ≤ o → p % 2 ^ o ≡ 0 → p ≡ p / 64 * 64
 rows-start p o h e =
-    let q : p % 2 ^ (o - 6 + 6) ≡ 0 = ap (λ (k : ℕ). p % 2 ^ k) (sub-add-cancel h) ∙ e in
-    let z : p % 64 ≡ 0 = sym (mod-mod-pow p (o - 6) 6) ∙ ap (λ (x : ℕ). x % 64) q in
+    let z : p % 64 ≡ 0 = sym (rest-by-less p 6 o h) ∙ ap (λ (x : ℕ). x % 64) e in
     omega arith
 
 -- ---- a block as a number

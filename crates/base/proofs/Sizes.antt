@@ -1,11 +1,13 @@
--- The sizes that follow from the huge order h, whichever of the two it is, and the mask of a size. Assumes nothing.
+-- The sizes that follow from the huge order h, whichever of the two it is, the mask of a size, and a smaller size within a larger. Assumes nothing.
 use mathlib.Core.Path.{_≡_, refl, sym, ap, _∙_}
-use Prim.Native.Nat.{ℕ, _-_, _*_, _%_, _^_, _≤_}
-use native.Mathlib.Nat.{sub-add-cancel}
+use Prim.Native.Nat.{ℕ, _+_, _-_, _*_, _%_, _^_, _≤_, _<_}
+use native.Mathlib.Nat.{add-zero, sub-add-cancel, mul-assoc, mod-lt}
 use native.Mathlib.Omega.{arith}
 use lib.Bits.{bitAnd, and-mask}
-use lib.Pow.{pow-add}
+use lib.Dec.{lit<}
+use lib.Pow.{pow-pos, pow-add, mod-mod-pow}
 use Rattle.base.specs.Size.{Huge, nine, eleven, rowsOf}
+use Rattle.base.proofs.Rests.{block-ends, mod-rows}
 
 -- a huge order is at least 9, so a huge frame is whole rows
 pub huge-low : {h : ℕ} → Huge h → 9 ≤ h
@@ -27,6 +29,14 @@ pub frames-fit : {h : ℕ} → Huge h → 2 ^ h ≤ 2048
 frames-fit nine = omega arith
 frames-fit eleven = omega arith
 
+-- the first row of huge frame x begins with its first frame
+pub first-row : {h : ℕ} → Huge h → (x : ℕ) → x * rowsOf h * 64 ≡ x * 2 ^ h
+first-row {h} H x = rw (rows-frames H) (mul-assoc x (rowsOf h) 64)
+
+-- and a row's place in its huge frame is that of its first frame
+pub rows-wrap : {h : ℕ} → Huge h → (row : ℕ) → row % rowsOf h * 64 ≡ row * 64 % 2 ^ h
+rows-wrap {h} H row = rw (rows-frames H) (sym (rw (add-zero (row * 64), add-zero (row % rowsOf h * 64)) at (mod-rows row 0 (rowsOf h) (lit< tt) (pow-pos (h - 6)))))
+
 -- masked by a size less one, a number keeps its rest: what `n & (size(k) - 1)` is
 pub mask-mod : (n k : ℕ) {m : ℕ} → m ≡ 2 ^ k → bitAnd n (m - 1) ≡ n % 2 ^ k
 mask-mod n k e = rw e (and-mask n k)
@@ -34,3 +44,14 @@ mask-mod n k e = rw e (and-mask n k)
 -- a smaller power of two divides a larger one: the places of a row, the groups of a huge frame
 pub pow-divides : (o k : ℕ) → o ≤ k → 2 ^ (k - o) * 2 ^ o ≡ 2 ^ k
 pow-divides o k l = sym (pow-add 2 (k - o) o) ∙ ap (λ (x : ℕ). 2 ^ x) (sub-add-cancel l)
+
+-- so a number's rest by the larger one has the same rest by the smaller one
+pub rest-by-less : (a o k : ℕ) → o ≤ k → a % 2 ^ k % 2 ^ o ≡ a % 2 ^ o
+rest-by-less a o k l = ap (λ (x : ℕ). a % 2 ^ x % 2 ^ o) (sym (sub-add-cancel l)) ∙ mod-mod-pow a (k - o) o
+
+-- and a block of the smaller size, aligned, ends within one of the larger
+pub place-ends : (p o k : ℕ) → o ≤ k → p % 2 ^ o ≡ 0 → p % 2 ^ k + 2 ^ o ≤ 2 ^ k
+place-ends p o k l e =
+    let w = pow-divides o k l in
+    let low : p % 2 ^ k < 2 ^ (k - o) * 2 ^ o = rw w (mod-lt p (pow-pos k)) in
+    rw w at (block-ends (p % 2 ^ k) (2 ^ o) (2 ^ (k - o)) (rest-by-less p o k l ∙ e) low)

@@ -161,6 +161,21 @@ pub pick-case {ℓ} : {A : Type ℓ} (P : A → Type 0) (b : Bool) {x y : A} →
 pick-case P true f g = f refl
 pick-case P false f g = g refl
 
+-- what is made of a choice is the choice of what is made
+pub pick-of : {A B : Type 0} (g : A → B) (d : Bool) (x y : A) → g (pick d x y) ≡ pick d (g x) (g y)
+pick-of g true x y = refl
+pick-of g false x y = refl
+
+-- to relate two choices by one test, relate their sides
+pub pick-both : {A : Type 0} (R : A → A → Type 0) (b : Bool) {x y x′ y′ : A} → (b ≡ true → R x y) → (b ≡ false → R x′ y′) → R (pick b x x′) (pick b y y′)
+pick-both R true f g = f refl
+pick-both R false f g = g refl
+
+-- a choice between one and the same
+pub either : {A : Type 0} (b : Bool) (x : A) → pick b x x ≡ x
+either true x = refl
+either false x = refl
+
 -- a count in two parts
 pub count-parts : (p : ℕ → Bool) (a b i : ℕ) → count p (a + b) i ≡ count p a i + count p b (i + a)
 unfolding count

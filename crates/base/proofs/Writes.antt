@@ -22,6 +22,10 @@ unfolding withBits
 length-with b [] a e = refl
 length-with b (v ∷ rows) a e = ap suc (length-with b rows (a - 64) (e - 64))
 
+-- frame a from one row further on
+one-row : (a i : ℕ) → a - 64 - 64 * i ≡ a - 64 * suc i
+one-row a i = omega arith
+
 -- each row by itself
 pub getD-with : (b : Bool) (rows : List ℕ) (a e i : ℕ) → i < length rows → getD (withBits b rows a e) i 0 ≡ overlay b (getD rows i 0) (min (a - 64 * i) 64) (min (e - 64 * i) 64)
 unfolding withBits
@@ -31,9 +35,13 @@ getD-with b (v ∷ rows) a e zero h =
     let q : e - 64 * 0 ≡ e = omega arith in
     rw (p, q)
 getD-with b (v ∷ rows) a e (suc i) h =
-    let p : a - 64 - 64 * i ≡ a - 64 * suc i = omega arith in
-    let q : e - 64 - 64 * i ≡ e - 64 * suc i = omega arith in
-    getD-with b rows (a - 64) (e - 64) i (le-of-suc-le-suc h) ∙ rw (p, q)
+    getD-with b rows (a - 64) (e - 64) i (le-of-suc-le-suc h) ∙ rw (one-row a i, one-row e i)
+
+-- one write to two lists of rows: where they were alike they still are
+pub with-alike : (b : Bool) (rows left : List ℕ) (a e i : ℕ) → i < length rows → i < length left → getD rows i 0 ≡ getD left i 0
+    → getD (withBits b rows a e) i 0 ≡ getD (withBits b left a e) i 0
+with-alike b rows left a e i l k q =
+    getD-with b rows a e i l ∙ ap (λ (v : ℕ). overlay b v (min (a - 64 * i) 64) (min (e - 64 * i) 64)) q ∙ sym (getD-with b left a e i k)
 
 -- a block within row i writes that row alone
 row-at : (b : Bool) (rows : List ℕ) (i q s : ℕ) → q + s ≤ 64 → withBits b rows (i * 64 + q) (i * 64 + q + s) ≡ set rows i (overlay b (getD rows i 0) q (q + s))
@@ -85,15 +93,22 @@ with-rows b (v ∷ rows) (suc i) k fits h =
     let e : (suc i + k) * 64 - 64 ≡ (i + k) * 64 = omega arith in
     rw (lo, hi, a, e, overlay-none b v 64, suc-add) (ap (λ (l : List ℕ). v ∷ l) (with-rows b rows i k (λ j. fits (suc j)) (omega arith)))
 
--- a row behind all that is written stays
-pub with-beyond : (b : Bool) (rows : List ℕ) (a e i : ℕ) → a ≤ e → e ≤ i * 64 → getD (withBits b rows a e) i 0 ≡ getD rows i 0
+-- a row of which no bit is written stays
+with-apart : (b : Bool) (rows : List ℕ) (a e i : ℕ) → min (a - 64 * i) 64 ≡ min (e - 64 * i) 64 → getD (withBits b rows a e) i 0 ≡ getD rows i 0
 unfolding withBits
-with-beyond b [] a e i l h = refl
-with-beyond b (v ∷ rows) a e zero l h =
-    let lo : min a 64 ≡ 0 = omega arith in
-    let hi : min e 64 ≡ 0 = omega arith in
-    rw (lo, hi) (overlay-none b v 0)
-with-beyond b (v ∷ rows) a e (suc i) l h = with-beyond b rows (a - 64) (e - 64) i (omega arith) (omega arith)
+with-apart b [] a e i q = refl
+with-apart b (v ∷ rows) a e zero q =
+    let none : min e 64 ≡ min a 64 = omega arith in
+    rw none (overlay-none b v (min a 64))
+with-apart b (v ∷ rows) a e (suc i) q = with-apart b rows (a - 64) (e - 64) i (rw (one-row a i, one-row e i) q)
+
+-- so a row behind all that is written does
+pub with-beyond : (b : Bool) (rows : List ℕ) (a e i : ℕ) → a ≤ e → e ≤ i * 64 → getD (withBits b rows a e) i 0 ≡ getD rows i 0
+with-beyond b rows a e i l h = with-apart b rows a e i (omega arith)
+
+-- and a row before it
+pub with-ahead : (b : Bool) (rows : List ℕ) (a e i : ℕ) → a ≤ e → (i + 1) * 64 ≤ a → getD (withBits b rows a e) i 0 ≡ getD rows i 0
+with-ahead b rows a e i l h = with-apart b rows a e i (omega arith)
 
 -- a solid number fits its bits
 pub solid-lt : (b : Bool) (s : ℕ) → solid b s < 2 ^ s

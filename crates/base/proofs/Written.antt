@@ -1,7 +1,7 @@
 -- Laws of a run that is written: what a loop's turn does, and what each element is at the end. Assumes nothing.
 use mathlib.Core.Path.{_≡_, refl, sym, ap, _∙_}
 use mathlib.Core.List.{List, [], _∷_, _++_}
-use native.Mathlib.Decide.{decLt}
+use native.Mathlib.Decide.{decLt, ℕ-discrete}
 use Prim.Native.Nat.{ℕ, zero, suc, _+_, _≤_, _<_}
 use native.Mathlib.Nat.{add-zero, zero-add, add-suc, suc-add}
 use native.Mathlib.Omega.{arith}
@@ -67,6 +67,21 @@ unfolding written
 written-stays f l at zero e = refl
 written-stays f l at (suc n) e =
     rw (written, written-stays f l at n (λ i a b. e i a (omega arith)), e (at + n) (omega arith) (omega arith)) (set-getD l (at + n) 0)
+
+-- one write to two lists: where they were alike they still are
+pub set-alike : (l r : List ℕ) (i j v : ℕ) → i < length l → i < length r → getD l j 0 ≡ getD r j 0 → getD (set l i v) j 0 ≡ getD (set r i v) j 0
+set-alike l r i j v p q e = elim (ℕ-discrete j i) [
+  | yes k ↦ rw k (getD-set-same l i v 0 p ∙ sym (getD-set-same r i v 0 q))
+  | no k ↦ getD-set-other l i j v 0 k ∙ e ∙ sym (getD-set-other r i j v 0 k)
+]
+
+pub written-alike : (f : ℕ → ℕ) (l r : List ℕ) (at n j : ℕ) → at + n ≤ length l → at + n ≤ length r → getD l j 0 ≡ getD r j 0
+    → getD (written f l at n) j 0 ≡ getD (written f r at n) j 0
+unfolding written
+written-alike f l r at zero j p q e = e
+written-alike f l r at (suc n) j p q e =
+    set-alike (written f l at n) (written f r at n) (at + n) j (f (at + n)) (omega (arith, length-written f l at n)) (omega (arith, length-written f r at n))
+    (written-alike f l r at n j (omega arith) (omega arith) e)
 
 -- an element behind a front
 set-behind : (xs ys : List ℕ) (n v : ℕ) → set (xs ++ ys) (length xs + n) v ≡ xs ++ set ys n v

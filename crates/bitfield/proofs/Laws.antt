@@ -8,13 +8,14 @@ use native.Mathlib.Omega.{arith}
 use lib.Dec.{eqb, leb, ltb}
 use lib.Pow.{pow-pos}
 use lib.ListN.{length, getD, replicate, drop-of-length-le}
-use borrow.Author.Tests.{eqb-true, eqb-false, ltb-true, ltb-false, leb-true}
+use borrow.Author.Tests.{eq-eqb, eqb-true, eqb-false, ltb-true, ltb-false, le-leb, leb-true}
 use Rattle.base.specs.Walk.{pick}
 use Rattle.base.specs.Code.{Out, out, unless, orElse}
 use Rattle.base.specs.Size.{Huge, rowsOf}
 use Rattle.base.specs.Bits.{solid, bitIs, blockIs, withBits}
-use Rattle.base.proofs.Walks.{first-hit, first-before}
-use Rattle.base.proofs.Codes.{none-of, holds, both}
+use Rattle.base.proofs.Walks.{pick-case, first-hit, first-before}
+use Rattle.base.proofs.Tests.{both}
+use Rattle.base.proofs.Codes.{none-of, holds}
 use Rattle.base.proofs.Sizes.{huge-high, rows-frames}
 use Rattle.base.proofs.Writes.{with-rows}
 use Rattle.base.proofs.Frames.{Wrote, wrote, block-each, block-of}
@@ -204,6 +205,13 @@ module _ {h : ℕ} (H : Huge h) (rows : List ℕ) (start o : ℕ) where
             go true true e = omega arith
             go true false e = omega arith
             go false t e = omega arith
+
+-- where the rows and the order are right, a search that finds no block is refused with 7
+pub search-code : (h : ℕ) (rows : List ℕ) (start o : ℕ) → length rows ≡ rowsOf h → o ≤ h → (firstZeros h rows start o .code ≡ 0 → ⊥) → firstZeros h rows start o .code ≡ 7
+unfolding firstZeros orElse
+search-code h rows start o long low =
+    rw (eq-eqb (length rows) (rowsOf h) long, le-leb o h low)
+    (pick-case (λ (a : Placed). (a .code ≡ 0 → ⊥) → a .code ≡ 7) (ltb (passed h rows start o) (2 ^ (h - o))) (λ _ none. absurd (none refl)) (λ _ _. refl))
 
 -- set_first_zeros answers as the search does, and writes the block that it found, or nothing
 pub search-wrote : {h : ℕ} → Huge h → (rows : List ℕ) (start o : ℕ) → setFirstZeros h rows start o .answer .code ≡ 0

@@ -5,13 +5,13 @@ use Prim.Native.Nat.{ℕ, _+_, _-_, _*_, _/_, _%_, _^_, _≤_, _<_}
 use native.Mathlib.Nat.{sub-add-cancel, mod-lt, mod-eq-of-lt, mul-add-mod-self-right, mul-mod-left, div-add-mod', mul-le-mul-right, mul-assoc, zero-mul, mul-div-cancel, add-mul, mul-comm, mul-sub, add-comm}
 use native.Mathlib.Omega.{arith}
 use lib.Dec.{leb}
-use lib.Pow.{pow-pos, mod-mod-pow, shr-lt}
+use lib.Pow.{pow-pos, shr-lt}
 use borrow.Author.Tests.{leb-true}
 use Rattle.base.specs.Walk.{pick}
 use Rattle.base.specs.Size.{Huge, rowsOf}
-use Rattle.base.proofs.Rests.{mod-sum, block-ends}
+use Rattle.base.proofs.Rests.{mod-sum}
 use Rattle.base.proofs.Walks.{pick-case}
-use Rattle.base.proofs.Sizes.{rows-frames, pow-divides}
+use Rattle.base.proofs.Sizes.{rows-frames, pow-divides, rest-by-less, place-ends}
 use Rattle.bitfield.specs.Calls.{origin, visited, distance}
 
 module _ {h : ℕ} (H : Huge h) (start o : ℕ) (lh : o ≤ h) where
@@ -32,20 +32,18 @@ module _ {h : ℕ} (H : Huge h) (start o : ℕ) (lh : o ≤ h) where
       go true e = even (start % rowsOf h * 64) (start % rowsOf h * 2 ^ (6 - o)) (sym (mul-assoc (start % rowsOf h) (2 ^ (6 - o)) (2 ^ o) ∙ ap (λ (x : ℕ). start % rowsOf h * x) (pow-divides o 6 (leb-true o 6 e))))
       go false e = even (0 * 64) 0 (sym (zero-mul (2 ^ o)))
 
-  even-mod : (a : ℕ) → a % 2 ^ h % 2 ^ o ≡ a % 2 ^ o
-  even-mod a = ap (λ (k : ℕ). a % 2 ^ k % 2 ^ o) (sym (sub-add-cancel lh)) ∙ mod-mod-pow a (h - o) o
-
-  -- a place that is visited is aligned, and its block lies in the huge frame
-  pub visited-aligned : (j : ℕ) → visited h start o j % 2 ^ o ≡ 0
-  visited-aligned j =
-      even-mod (origin h start o * 64 + j * 2 ^ o)
-      ∙ ap (λ (x : ℕ). (x + j * 2 ^ o) % 2 ^ o) origin-even
+  -- each step from it is aligned
+  step-even : (j : ℕ) → (origin h start o * 64 + j * 2 ^ o) % 2 ^ o ≡ 0
+  step-even j =
+      ap (λ (x : ℕ). (x + j * 2 ^ o) % 2 ^ o) origin-even
       ∙ ap (λ (x : ℕ). x % 2 ^ o) (sym (add-mul (origin h start o * 64 / 2 ^ o) j (2 ^ o))) ∙ mul-mod-left (origin h start o * 64 / 2 ^ o + j) (2 ^ o)
 
+  -- so a place that is visited is aligned, and its block lies in the huge frame
+  pub visited-aligned : (j : ℕ) → visited h start o j % 2 ^ o ≡ 0
+  visited-aligned j = rest-by-less (origin h start o * 64 + j * 2 ^ o) o h lh ∙ step-even j
+
   pub visited-ends : (j : ℕ) → visited h start o j + 2 ^ o ≤ 2 ^ h
-  visited-ends j =
-      subst (λ (x : ℕ). visited h start o j + 2 ^ o ≤ x) (pow-divides o h lh)
-      (block-ends (visited h start o j) (2 ^ o) (2 ^ (h - o)) (visited-aligned j) (subst (λ (x : ℕ). visited h start o j < x) (sym (pow-divides o h lh)) (mod-lt _ (pow-pos h))))
+  visited-ends j = place-ends (origin h start o * 64 + j * 2 ^ o) o h lh (step-even j)
 
   -- the j-th place lies j blocks behind the origin
   pub distance-visited : (j : ℕ) → j < 2 ^ (h - o) → distance h start o (visited h start o j) ≡ j * 2 ^ o
@@ -76,7 +74,7 @@ module _ {h : ℕ} (H : Huge h) (start o : ℕ) (lh : o ≤ h) where
         let full = pow-divides o h lh in
         let oe = origin-even in
         let z : distance h start o p % 2 ^ o ≡ 0 =
-        even-mod (p + (2 ^ h - origin h start o * 64))
+        rest-by-less (p + (2 ^ h - origin h start o * 64)) o h lh
         ∙ ap (λ (x : ℕ). x % 2 ^ o) (multiple (p / 2 ^ o) (2 ^ (h - o)) (origin h start o * 64 / 2 ^ o) (2 ^ o) p (2 ^ h) (origin h start o * 64) (omega arith) (sym full) oe)
         ∙ mul-mod-left (p / 2 ^ o + (2 ^ (h - o) - origin h start o * 64 / 2 ^ o)) (2 ^ o) in
         omega (arith, div-add-mod' (distance h start o p) (2 ^ o))

@@ -10,19 +10,18 @@ use Rattle.base.specs.Bits.{bitIs}
 use Rattle.base.specs.Size.{Huge}
 use Rattle.base.proofs.Walks.{count-le}
 use Rattle.base.proofs.Frames.{block-each, block-of}
+use Rattle.base.proofs.Codes.{done}
 use Rattle.shape.specs.Shape.{mark, entriesNeeded}
 use Rattle.shape.specs.State.{Mem, sizes, entryOf}
 use Rattle.shape.proofs.Laws.{tree-pos}
 use Rattle.shape.proofs.Lent.{sized, sized-passes}
+use Rattle.shape.proofs.Present.{present-entry}
 use Rattle.audit.specs.declared.Fault.{Fault}
 use Rattle.audit.specs.Audit.{fault, reason, auditAll}
 use Rattle.audit.proofs.Reasons.{reason-clean-absent, reason-absent-clean, reason-clean-marked, reason-marked-clean, reason-clean-counted, reason-counted-clean}
 use Rattle.audit.proofs.Audits.{audit-clean-each, audit-each-clean}
 use Rattle.staff.specs.Calls.{audit}
-use Rattle.base.proofs.Codes.{done}
-use Rattle.claims.specs.Consistent.{Marked, Counted, Consistent}
-use Rattle.claims.specs.Staff.{CleanIsConsistent}
-use Rattle.shape.proofs.Present.{present-entry}
+use Rattle.claims.specs.Consistent.{Fits, Marked, Counted, Consistent}
 use Rattle.claims.proofs.Frees.{no-mark}
 
 -- ---- one huge frame
@@ -66,7 +65,7 @@ consistent-reasonless {h} {n} {t} {m} H c x u = elim (decLt (x * 2 ^ h) n) [
   | no l ↦ reason-absent-clean h n m x (omega arith) (c .absent x (omega arith) u)
 ]
 
-pub clean-is-consistent : CleanIsConsistent
+pub clean-is-consistent : (h n t : ℕ) (m : Mem) → Huge h → Fits m → (audit h n t m ≡ fault 0 0 0 → Consistent h n t m) × (Consistent h n t m → audit h n t m ≡ fault 0 0 0)
 unfolding audit
 clean-is-consistent h n t m H fits = (clean, consistent)
   where

@@ -1,16 +1,21 @@
--- What makes a frame free, and what makes it held. Assumes nothing.
-use mathlib.Core.Path.{_≡_, refl}
-use mathlib.Core.Bool.{Bool, true, false, not, _&&_}
-use Prim.Native.Nat.{ℕ, _≤_, _<_}
+-- What makes a frame free, what makes it held, and what an entry of a consistent state is. Assumes nothing.
+use mathlib.Core.Path.{_≡_, refl, sym, _∙_}
+use mathlib.Core.Bool.{Bool, true, false, not, _&&_, and-true}
+use mathlib.Core.Logic.{⊎-elim}
+use Prim.Native.Nat.{ℕ, _+_, _*_, _^_, _≤_, _<_}
+use native.Mathlib.Decide.{decLt}
 use native.Mathlib.Omega.{arith}
 use lib.Dec.{eqb, ltb}
-use borrow.Author.Tests.{eq-eqb, ne-eqb, lt-ltb, le-ltb}
+use borrow.Author.Tests.{eq-eqb, ne-eqb, lt-ltb, le-ltb, not-true}
+use Rattle.base.specs.Walk.{pick}
 use Rattle.base.specs.Bits.{bitIs}
 use Rattle.base.specs.Size.{Huge}
+use Rattle.base.proofs.Frames.{set-not-clear}
 use Rattle.base.proofs.Sizes.{frames-fit}
 use Rattle.shape.specs.Shape.{mark, hugeOf}
-use Rattle.shape.specs.State.{Mem, entryOf}
-use Rattle.claims.specs.Consistent.{Counted, free}
+use Rattle.shape.specs.State.{Mem, entryOf, clearOf}
+use Rattle.shape.proofs.Present.{huge-is}
+use Rattle.claims.specs.Consistent.{Counted, Consistent, free}
 
 -- a count is never the mark
 pub no-mark : {h n : ℕ} {m : Mem} {x : ℕ} → Huge h → Counted h n m x → entryOf (m .entries) x ≡ mark → ⊥
@@ -44,3 +49,15 @@ module _ (h n : ℕ) (m : Mem) (f : ℕ) where
   -- and one past N
   pub held-past : n ≤ f → free h n m f ≡ false
   held-past l = rw (le-ltb f n l)
+
+-- where the entry is a count, a frame is free exactly if its bit is clear
+pub counted-free : {h n : ℕ} {m : Mem} {x : ℕ} → Huge h → Counted h n m x → (f : ℕ) → x * 2 ^ h ≤ f → f < (x + 1) * 2 ^ h → free h n m f ≡ bitIs false (m .rows) f
+counted-free {h} {n} {m} {x} H k f low high = elim (decLt f n) [
+  | yes l ↦ rw (huge-is h x f low high, lt-ltb f n l, ne-eqb _ _ (no-mark H k)) (and-true (bitIs false (m .rows) f))
+  | no l ↦ held-past h n m f (omega arith) ∙ sym (not-true (bitIs false (m .rows) f) (sym (set-not-clear (m .rows) f) ∙ k .past f (omega arith) high))
+]
+
+-- the entry of a present huge frame is the mark, or the number of clear bits
+pub entry-told : {h n t : ℕ} {m : Mem} → Huge h → Consistent h n t m → (x : ℕ) → x * 2 ^ h < n
+    → entryOf (m .entries) x ≡ pick (eqb (entryOf (m .entries) x) mark) mark (clearOf h (m .rows) x)
+entry-told {h} {n} {m = m} H c x l = ⊎-elim (λ k. rw (eq-eqb _ _ (k .marked)) (k .marked)) (λ (k : Counted h n m x). rw (ne-eqb _ _ (no-mark H k)) (k .counts)) (c .present x l)

@@ -5,36 +5,34 @@ use mathlib.Core.List.{List}
 use mathlib.Core.Logic.{inl, inr, ⊎-elim}
 use Prim.Native.Nat.{ℕ, _+_, _-_, _*_, _/_, _^_, _≤_, _<_}
 use native.Mathlib.Decide.{decLt, ℕ-discrete}
-use native.Mathlib.Nat.{div-add-mod', mod-lt}
+use native.Mathlib.Nat.{div-add-mod'}
 use native.Mathlib.Omega.{arith}
 use lib.Dec.{eqb}
-use lib.Pow.{pow-pos}
 use lib.ListN.{length, getD}
 use borrow.Author.Tests.{eq-eqb, ne-eqb, eqb-true, leb-true}
 use Rattle.base.specs.Walk.{pick, count}
 use Rattle.base.specs.Bits.{bitIs, blockIs}
 use Rattle.base.specs.Code.{Out, out, unless}
 use Rattle.base.specs.Size.{Huge, rowsOf}
-use Rattle.base.proofs.Sizes.{frames-fit, rows-frames}
+use Rattle.base.proofs.Sizes.{frames-fit}
 use Rattle.base.proofs.Walks.{all-each, all-of, count-le, count-same, count-none, pick-case}
 use Rattle.base.proofs.Written.{written-stays}
 use Rattle.base.proofs.Frames.{block-each, clear-row}
+use Rattle.base.proofs.Codes.{done}
 use Rattle.shape.specs.Shape.{mark, hugeOf, whole, ceil, rowsNeeded, entriesNeeded}
 use Rattle.shape.specs.Refuse.{Sized}
 use Rattle.shape.specs.State.{Mem, mem, sizes, entryOf, clearOf}
 use Rattle.shape.proofs.Laws.{tree-pos}
 use Rattle.shape.proofs.Lent.{sized, sized-passes}
+use Rattle.shape.proofs.Present.{present-entry, low-present, row-present, row-within, huge-is}
 use Rattle.audit.specs.Audit.{reason}
 use Rattle.audit.proofs.Reasons.{reason-absent, reason-marked, reason-counted}
 use Rattle.recover.specs.declared.Recovered.{Recovered}
 use Rattle.recover.specs.Recover.{recovered, hinders, recoverable, entryAfter, rowAfter, mended, entriesDiffer, bitfieldsDiffer, differing, recoverAll}
 use Rattle.recover.proofs.Mended.{rows-beyond, entries-beyond, mended-sized, mended-mark, mended-count, mended-row, mended-clear, mended-same}
 use Rattle.staff.specs.Calls.{recover}
-use Rattle.base.proofs.Codes.{done}
 use Rattle.claims.specs.Consistent.{Fits, Marked, Counted, Consistent, free}
-use Rattle.claims.specs.Staff.{RecoverMakesConsistent, RecoverKeepsConsistent}
-use Rattle.shape.proofs.Present.{present-entry, low-present, row-present, huge-is}
-use Rattle.claims.proofs.Frees.{no-mark, held-mark, held-past}
+use Rattle.claims.proofs.Frees.{no-mark, held-mark, held-past, entry-told}
 use Rattle.claims.proofs.Audits.{consistent-reasonless}
 
 -- ---- what does not hinder
@@ -139,7 +137,8 @@ recovered-mended h n t m e = go (recoverable h n t m) refl e
     go true q e = (q, refl)
     go false q e = absurd (omega arith)
 
-pub recover-makes-consistent : RecoverMakesConsistent
+pub recover-makes-consistent : (h n t : ℕ) (m : Mem) → Huge h → Fits m → recover h n t m .answer .code ≡ 0
+    → Consistent h n t (recover h n t m .left) × ((f : ℕ) → free h n (recover h n t m .left) f ≡ free h n m f)
 unfolding recover
 recover-makes-consistent h n t m H fits e =
     let d = done (recoverAll h n t m) (out (recovered (sizes h n t m) 0 0) m) (λ o. o .answer .code) refl e in
@@ -166,20 +165,12 @@ module _ {h n t : ℕ} {m : Mem} (H : Huge h) (c : Consistent h n t m) where
   consistent-recoverable =
       all-of _ (entriesNeeded h n t) 0 (λ x _ l. ap (λ (r : ℕ). not (hinders r)) (consistent-reasonless H c x (omega arith)))
 
-  entry-stays : (x : ℕ) → x * 2 ^ h < n → entryAfter h m x ≡ entryOf (m .entries) x
-  entry-stays x l = ⊎-elim
-      (λ k. rw (eq-eqb _ _ (k .marked)) (sym (k .marked)))
-      (λ (k : Counted h n m x). rw (ne-eqb _ _ (no-mark H k)) (sym (k .counts)))
-      (c .present x l)
-
   row-stays : (i : ℕ) → i / rowsOf h * 2 ^ h < n → rowAfter h m i ≡ getD (m .rows) i 0
   row-stays i l =
       let x = i / rowsOf h in
-      let d = div-add-mod' i (rowsOf h) in
-      let r = mod-lt i (pow-pos (h - 6)) in
       ⊎-elim
       (λ k. rw (eq-eqb _ _ (k .marked))
-      (sym (clear-row (m .rows) (c .fits .rows) i (λ f a b. k .clear f (rw (rows-frames H) (omega arith)) (rw (rows-frames H) (omega arith))))))
+      (sym (clear-row (m .rows) (c .fits .rows) i (λ f a b. let own = row-within H i f a b in k .clear f (own .0) (own .1)))))
       (λ (k : Counted h n m x). rw (ne-eqb _ _ (no-mark H k)))
       (c .present x l)
 
@@ -188,11 +179,11 @@ module _ {h n t : ℕ} {m : Mem} (H : Huge h) (c : Consistent h n t m) where
   mended-is =
       ap₂ mem
       (written-stays (rowAfter h m) (m .rows) 0 (rowsNeeded h n) (λ i _ l. row-stays i (row-present h n i (omega arith))))
-      (written-stays (entryAfter h m) (m .entries) 0 (ceil n (2 ^ h)) (λ x _ l. entry-stays x (low-present h n x (omega arith))))
+      (written-stays (entryAfter h m) (m .entries) 0 (ceil n (2 ^ h)) (λ x _ l. sym (entry-told H c x (low-present h n x (omega arith)))))
 
   none-differ : differing h m (mended h n m) ≡ recovered 0 0 0
   none-differ = ap (differing h m) mended-is ∙ ap₂ (recovered 0) (no-entries-differ (m .entries)) (no-bitfields-differ h (m .rows))
 
-pub recover-keeps-consistent : RecoverKeepsConsistent
+pub recover-keeps-consistent : (h n t : ℕ) (m : Mem) → Huge h → Consistent h n t m → recover h n t m ≡ out (recovered 0 0 0) m
 unfolding recover recoverAll
 recover-keeps-consistent h n t m H c = rw (sized-passes (c .sized), consistent-recoverable H c) (ap₂ out (none-differ H c) (mended-is H c))

@@ -4,7 +4,7 @@ use mathlib.Core.Bool.{Bool, true, false}
 use mathlib.Core.Logic.{inl, inr}
 use Prim.Native.Nat.{ℕ, _+_, _-_, _*_, _/_, _^_, _≤_, _<_, min}
 use native.Mathlib.Decide.{decLt, decLe}
-use native.Mathlib.Nat.{div-mul-le-self, div-lt-iff-lt-mul, le-div-iff-mul-le, mul-le-mul-right, div-add-mod', mod-lt}
+use native.Mathlib.Nat.{div-mul-le-self, div-lt-iff-lt-mul, le-div-iff-mul-le, mul-le-mul-right, div-add-mod'}
 use native.Mathlib.Omega.{arith}
 use lib.ListN.{length}
 use lib.Pow.{pow-pos}
@@ -15,23 +15,21 @@ use Rattle.base.specs.Bits.{bitIs}
 use Rattle.base.specs.Size.{Huge}
 use Rattle.base.proofs.Sizes.{frames-fit}
 use Rattle.base.proofs.Frames.{alike}
+use Rattle.base.proofs.Clears.{cleared-below, cleared-past, cleared-count}
 use Rattle.base.proofs.Writes.{length-with, with-fits}
 use Rattle.base.proofs.Written.{written-in, written-beyond, length-written}
+use Rattle.base.proofs.Codes.{done}
 use Rattle.shape.specs.Shape.{mark, hugeOf, rowsNeeded, entriesNeeded}
 use Rattle.shape.specs.Refuse.{Sized}
 use Rattle.shape.specs.State.{Mem, mem, sizes, entryOf, clearOf}
 use Rattle.shape.proofs.Laws.{tree-pos}
 use Rattle.shape.proofs.Lent.{sized}
+use Rattle.shape.proofs.Present.{present-entry, rows-enough, present-ends, huge-ends}
 use Rattle.starts.specs.Starts as starts
 use Rattle.starts.specs.Starts.{rowsFrom, freeEntry, heldEntry}
-use Rattle.starts.proofs.Rows.{rows-enough}
 use Rattle.lower.specs.Calls.{freeAll, reserveAll}
-use Rattle.base.proofs.Codes.{done}
 use Rattle.claims.specs.Consistent.{Fits, Marked, Counted, Consistent, free}
-use Rattle.claims.specs.Staff.{FreeAllIsConsistent, ReserveAllIsConsistent}
-use Rattle.shape.proofs.Present.{present-entry, present-ends}
 use Rattle.claims.proofs.Frees.{no-mark, is-free, held-mark, held-bit}
-use Rattle.claims.proofs.Clears.{cleared-below, cleared-past, cleared-count}
 
 module _ {h n t : ℕ} (H : Huge h) (m : Mem) (fits : Fits m) (s : Sized h n t (length (m .rows)) (length (m .entries))) where
   pos : 0 < t
@@ -166,24 +164,25 @@ module _ {h n t : ℕ} (H : Huge h) (m : Mem) (fits : Fits m) (s : Sized h n t (
   reserved-held : (f : ℕ) → f < n → free h n reserved f ≡ false
   reserved-held f l =
       let x = hugeOf h f in
-      let d = div-add-mod' f (2 ^ h) in
-      let r = mod-lt f (pow-pos h) in
-      let here : x * 2 ^ h < n = omega arith in
+      let own = huge-ends h f (hugeOf h f) refl in
+      let here : x * 2 ^ h < n = omega (arith, own .0) in
       elim (decLe ((x + 1) * 2 ^ h) n) [
         | yes u ↦ held-mark h n reserved f (reserved-marked x here u .marked)
-        | no u ↦ held-bit h n reserved f (started-past wholes wholes-low (heldEntry h n) false x f here (omega (arith, partial-past x (omega arith))) (omega arith))
+        | no u ↦ held-bit h n reserved f (started-past wholes wholes-low (heldEntry h n) false x f here (omega (arith, partial-past x (omega arith), own .0)) (own .1))
       ]
 
 -- ---- the calls
 
-pub free-all-is-consistent : FreeAllIsConsistent
+pub free-all-is-consistent : (h n t : ℕ) (m : Mem) → Huge h → Fits m → freeAll h n t m .answer ≡ 0
+    → Consistent h n t (freeAll h n t m .left) × ((f : ℕ) → f < n → free h n (freeAll h n t m .left) f ≡ true)
 unfolding freeAll starts.freeAll
 free-all-is-consistent h n t m H fits e =
     let d = done (out 0 (starts.freeAll h n t m)) (out (sizes h n t m) m) (λ o. o .answer) refl e in
     let s = sized h n t (length (m .rows)) (length (m .entries)) (d .0) in
     rw (d .1) (freed-consistent H m fits s, λ f l. freed-free H m fits s f (omega arith))
 
-pub reserve-all-is-consistent : ReserveAllIsConsistent
+pub reserve-all-is-consistent : (h n t : ℕ) (m : Mem) → Huge h → Fits m → reserveAll h n t m .answer ≡ 0
+    → Consistent h n t (reserveAll h n t m .left) × ((f : ℕ) → f < n → free h n (reserveAll h n t m .left) f ≡ false)
 unfolding reserveAll starts.reserveAll
 reserve-all-is-consistent h n t m H fits e =
     let d = done (out 0 (starts.reserveAll h n t m)) (out (sizes h n t m) m) (λ o. o .answer) refl e in

@@ -1,14 +1,5 @@
 -- Document 01, "Numbers and memory": consistent states, and which frames are free.
-use mathlib.Core.Path.{_≡_}
-use mathlib.Core.Bool.{Bool, true, false, not, _&&_}
-use mathlib.Core.Logic.{_⊎_}
-use Prim.Native.Nat.{ℕ, _+_, _*_, _^_, _≤_, _<_}
-use lib.Dec.{eqb, ltb}
-use lib.ListN.{length, getD}
-use Rattle.base.specs.Bits.{bitIs}
-use Rattle.shape.specs.Shape.{mark, hugeOf, entriesNeeded}
-use Rattle.shape.specs.Refuse.{Sized}
-use Rattle.shape.specs.State.{Mem, entryOf, clearOf}
+use Rattle.calls.specs.Words.{_≡_, _⊎_, Bool, true, false, not, _&&_, ℕ, _+_, _*_, _^_, _≤_, _<_, eqb, leb, ltb, length, getD, bitIs, mark, hugeOf, entriesNeeded, Sized, Mem, entryOf, clearOf}
 
 -- rows and entries of the widths that the slices have
 pub record Fits (m : Mem) : Type 0 where
@@ -37,3 +28,10 @@ pub record Consistent (h n t : ℕ) (m : Mem) : Type 0 where
 -- "a frame below N is free if its bit is clear and its entry is not the mark, otherwise held; frame N and later ones are never free"
 abbrev pub free : ℕ → ℕ → Mem → ℕ → Bool
 free h n m f = ltb f n && (bitIs false (m .rows) f && not (eqb (entryOf (m .entries) (hugeOf h f)) mark))
+
+abbrev pub held : ℕ → ℕ → Mem → ℕ → Bool
+held h n m f = not (free h n m f)
+
+-- frame f is one of the block of order o at a
+abbrev pub inBlock : ℕ → ℕ → ℕ → Bool
+inBlock a o f = leb a f && ltb f (a + 2 ^ o)

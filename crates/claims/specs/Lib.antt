@@ -1,2 +1,5 @@
 pub mod Consistent
-pub mod Staff
+pub mod Exact
+pub mod Runs
+pub mod Calls
+pub mod Results

@@ -12,7 +12,7 @@ use lib.ListN.{length, getD, take, drop, length-append, length-drop, List·getD-
 use lib.Seq.{take-suc, getD-at, getD-drop}
 use borrow.Author.Tests.{leb-true, le-leb, lt-leb, lt-ltb, le-ltb, ltb-true, ltb-false, not-true, not-false}
 use Rattle.base.proofs.Walks.{first-hit, first-le, first-from, first-before, first-is, first-never}
-use Rattle.base.proofs.Codes.{both}
+use Rattle.base.proofs.Tests.{both}
 use Rattle.decimal.specs.Decimal.{digits, places, isDigit, digitsEnd, valueAt}
 
 pub digit-low : (c : ℕ) → isDigit c ≡ true → 48 ≤ c

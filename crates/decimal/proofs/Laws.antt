@@ -12,7 +12,7 @@ use lib.ListN.{length, getD, take, drop, length-append, List·getD-append}
 use lib.Seq.{getD-append-add}
 use borrow.Author.Tests.{ltb-true, eqb-true, eqb-false, not-true}
 use Rattle.base.specs.Walk.{pick}
-use Rattle.base.proofs.Codes.{both}
+use Rattle.base.proofs.Tests.{both}
 use Rattle.decimal.specs.declared.Number.{Number}
 use Rattle.decimal.specs.Decimal.{digits, places, decimal, isDigit, digitsEnd, valueAt, number, isNumber, numberAt}
 use Rattle.decimal.proofs.Digits.{digit-low, Digits, end-within, end-digits, end-stops, end-is}

@@ -1,17 +1,17 @@
--- The groups of entries that a search visits in the tree of its start row: where each begins, and that it lies in the tree. Assumes nothing.
-use mathlib.Core.Path.{_≡_, ap, _∙_}
+-- Groups of entries: those of a block from the huge order up, and those that a search visits in the tree of its start row. Assumes nothing.
+use mathlib.Core.Path.{_≡_, refl, sym, ap, _∙_}
 use Prim.Native.Nat.{ℕ, _+_, _-_, _*_, _/_, _%_, _^_, _≤_, _<_}
-use native.Mathlib.Nat.{div-add-mod', div-mul-le-self, mod-lt, mod-eq-of-lt, mul-pos, mul-div-cancel}
+use native.Mathlib.Nat.{div-add-mod', div-mul-le-self, mod-lt, mod-eq-of-lt, mul-pos, mul-div-cancel, mul-assoc, mul-mod-left, sub-add-cancel, zero-div, le-of-mul-le-mul-right}
 use native.Mathlib.Omega.{arith}
-use lib.Dec.{lit<}
-use lib.Pow.{pow-pos}
+use lib.Arith.{digits-div, digits-mod}
+use lib.Pow.{pow-pos, field}
 use borrow.Author.Tests.{ltb-true}
 use Rattle.base.specs.Size.{Huge, nine, eleven, rowsOf}
 use Rattle.base.proofs.Sizes.{pow-divides}
-use Rattle.shape.specs.Shape.{hugeOf, treeLog, topOrder}
+use Rattle.shape.specs.Shape.{hugeOf, treeOf, treeLog, topOrder}
 use Rattle.shape.specs.Refuse.{Sized, Blocked, Started}
-use Rattle.shape.proofs.Laws.{tree-pow, tree-high, huge-of-row}
-use Rattle.shape.proofs.Lent.{block-entries, start-tree}
+use Rattle.shape.proofs.Laws.{tree-pow, tree-high, huge-by-rows}
+use Rattle.shape.proofs.Lent.{block-entries, block-in-tree, start-tree}
 use Rattle.huge.specs.Huge.{groupOf, groupAt}
 use Rattle.huge.proofs.Wraps.{step-next, step-first, step-ends, step-rest}
 
@@ -19,13 +19,39 @@ use Rattle.huge.proofs.Wraps.{step-next, step-first, step-ends, step-re
 pub order-low : {h n t rl el : ℕ} (o : ℕ) → Sized h n t rl el → o ≤ topOrder h t → o - h < 10
 order-low {t = t} o s l = omega (arith, ltb-true (treeLog t) 10 (s .tree))
 
+-- ---- blocks from the huge order up and their groups
+
+-- a group ends where its block does
+pub group-frames : (h at o : ℕ) → h ≤ o → (at + groupOf h o) * 2 ^ h ≡ at * 2 ^ h + 2 ^ o
+group-frames h at o l = omega (arith, pow-divides h o l)
+
+-- an aligned block begins with a group
+pub block-group : (h f o : ℕ) → h ≤ o → f % 2 ^ o ≡ 0 → hugeOf h f % groupOf h o ≡ 0
+block-group h f o l e = sym (field f (o - h) h) ∙ rw (sub-add-cancel l, e) (zero-div (2 ^ h))
+
+-- and a group begins an aligned block
+pub group-block : (h at o : ℕ) → h ≤ o → at % groupOf h o ≡ 0 → at * 2 ^ h % 2 ^ o ≡ 0
+group-block h at o l e =
+    let g = groupOf h o in
+    let q : at / groupOf h o * groupOf h o ≡ at = omega (arith, div-add-mod' at g) in
+    let p : at * 2 ^ h ≡ at / groupOf h o * 2 ^ o = ap (λ (y : ℕ). y * 2 ^ h) (sym q) ∙ mul-assoc (at / g) g (2 ^ h) ∙ ap (λ (y : ℕ). at / g * y) (pow-divides h o l) in
+    rw p (mul-mod-left (at / g) (2 ^ o))
+
 -- the entries of a block that passed the refusals are lent
 pub group-lent : {h n t rl el f o at g : ℕ} → Huge h → h ≤ o → Blocked h n t rl el f o → at ≡ hugeOf h f → g ≡ groupOf h o → at + g ≤ el
 group-lent H l b at-is g-is = rw (at-is, g-is) (block-entries H b l)
 
--- the huge frame of a row, by rows
-pub huge-by-rows : {h : ℕ} (row : ℕ) → Huge h → hugeOf h (row * 64) ≡ row / rowsOf h
-huge-by-rows {h} row H = huge-of-row (row * 64) H ∙ ap (λ (r : ℕ). r / rowsOf h) (mul-div-cancel row (lit< tt))
+-- they lie in the tree of its first
+pub group-in-tree : {h n t rl el f o : ℕ} → Blocked h n t rl el f o → h ≤ o → hugeOf h f + groupOf h o ≤ treeOf h t f * t + t
+group-in-tree {h} {t = t} {f = f} {o} b l =
+    let all : (treeOf h t f + 1) * (2 ^ h * t) ≡ (treeOf h t f * t + t) * 2 ^ h = swap (treeOf h t f) (2 ^ h) t in
+    let frames : (hugeOf h f + groupOf h o) * 2 ^ h ≤ (treeOf h t f * t + t) * 2 ^ h = omega (arith, group-frames h (hugeOf h f) o l, block-in-tree b, div-mul-le-self f (2 ^ h)) in
+    le-of-mul-le-mul-right frames (pow-pos h)
+  where
+    swap : (q p t : ℕ) → (q + 1) * (p * t) ≡ (q * t + t) * p
+    swap q p t = omega arith
+
+-- ---- the groups of a tree
 
 -- there are at most 2048 huge frames
 huge-few : {h : ℕ} (f : ℕ) → Huge h → f < 1048576 → hugeOf h f < 2048
@@ -76,17 +102,37 @@ module _ {t g x first c lent : ℕ} (T : Tree t g x first c lent) where
   pub groups-are : t / g ≡ c
   groups-are = rw (← T .whole) (mul-div-cancel c (T .wide))
 
-  -- the search begins with the group that holds x
+  -- and so some entries
+  pub tree-some : 0 < t
+  tree-some = rw (← T .whole) (mul-pos (T .some) (T .wide))
+
+  -- a group begins in a tree where it begins in all memory
+  pub rest-by-group : (y : ℕ) → y % t % g ≡ y % g
+  rest-by-group y = rw (← T .whole) (step-rest c g (T .some) (T .wide) y)
+
+  -- the group that holds x is one of the tree
+  pub own-group : x / g * g ≡ x / t * t + x % t / g * g
+  own-group = omega (arith, rest-by-group x, div-add-mod' x t, div-add-mod' (x % t) g, div-add-mod' x g)
+
+  pub own-low : x % t / g * g < t
+  own-low = omega (arith, div-mul-le-self (x % t) g, mod-lt x tree-some)
+
+  -- the search begins with it
   pub group-starts : x - x % g ≡ groupAt t g x 0
   group-starts =
-      let r : x % t % g ≡ x % g = rw (← T .whole) (step-rest c g (T .some) (T .wide) x) in
-      let a : x / t * t + x % t ≡ x = div-add-mod' x t in
-      let b : x % t / g * g + x % t % g ≡ x % t = div-add-mod' (x % t) g in
-      let p : 0 < t = rw (← T .whole) (mul-pos (T .some) (T .wide)) in
-      let l : x % t / g * g < t = omega (arith, mod-lt x p) in
       let s : x % t / g * g + 0 * g ≡ x % t / g * g = omega arith in
-      let z : (x % t / g * g + 0 * g) % t ≡ x % t / g * g = ap (λ (r : ℕ). r % t) s ∙ mod-eq-of-lt l in
-      omega arith
+      let z : (x % t / g * g + 0 * g) % t ≡ x % t / g * g = ap (λ (r : ℕ). r % t) s ∙ mod-eq-of-lt own-low in
+      omega (arith, own-group, div-add-mod' x g)
+
+  -- each group that is visited is aligned, and one of the tree
+  pub group-even : (j : ℕ) → groupAt t g x j % g ≡ 0
+  group-even j =
+      let s = x % t / g * g + j * g in
+      let e : x % t / g * g + j * g ≡ (x % t / g + j) * g = omega arith in
+      sym (rest-by-group (groupAt t g x j)) ∙ ap (λ (y : ℕ). y % g) (digits-mod (x / t) (mod-lt s tree-some)) ∙ rest-by-group s ∙ rw e (mul-mod-left (x % t / g + j) g)
+
+  pub group-tree : (j : ℕ) → groupAt t g x j / t ≡ x / t
+  group-tree j = digits-div (x / t) (mod-lt (x % t / g * g + j * g) tree-some)
 
   module _ (j at : ℕ) (here : at ≡ groupAt t g x j) where
     -- each group ends in the tree
@@ -113,3 +159,10 @@ module _ {t g x first c lent : ℕ} (T : Tree t g x first c lent) where
         let b : first ≡ x / t * t = T .begins in
         let e = step-first (x % t / g * g + j * g) g t (at - first) (omega arith) (omega arith) in
         omega (arith, rw one-more at e)
+
+-- the groups of the tree of a start row that passed the refusals, from the huge order on
+pub start-groups : {h n t rl el row o : ℕ} → Huge h → Started h n t rl el row o → h ≤ o
+    → Tree t (groupOf h o) (row / rowsOf h) (row / rowsOf h / t * t) (2 ^ (h + treeLog t - o)) el
+start-groups {h} {t = t} {row = row} {o} H s l =
+    let size : 2 ^ treeLog t ≡ t = tree-pow t (s .sized .tree) in
+    tree-groups H s (treeLog t) (row / rowsOf h) (row / rowsOf h / t) _ refl (sym (huge-by-rows row H)) (rw size) (rw size) l (groupOf h o) _ refl refl

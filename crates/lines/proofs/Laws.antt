@@ -15,7 +15,7 @@ use Rattle.base.specs.Walk.{pick}
 use Rattle.decimal.specs.declared.Number.{Number}
 use Rattle.decimal.specs.Decimal.{places, decimal, number}
 use Rattle.decimal.proofs.Laws.{length-decimal}
-use Rattle.base.proofs.Codes.{both}
+use Rattle.base.proofs.Tests.{both}
 use Rattle.lines.specs.declared.Line.{Line}
 use Rattle.lines.specs.declared.Answer.{Answer}
 use Rattle.lines.specs.Read.{line, bad, alone, ofBlock, ofStart, isCall, fieldAt, threeOf, twoOf, oneOf, fieldsOf, readLine, field, textOf}

@@ -3,7 +3,7 @@ use mathlib.Core.Path.{_≡_, refl, _∙_}
 use mathlib.Core.Bool.{Bool, true, false, _&&_}
 use mathlib.Core.List.{List}
 use Prim.Native.Nat.{ℕ, _+_, _-_, _*_, _/_, _^_, _≤_, _<_}
-use native.Mathlib.Nat.{mul-comm, mul-pos, le-of-mul-le-mul-right, div-add-mod'}
+use native.Mathlib.Nat.{div-add-mod'}
 use native.Mathlib.Omega.{arith}
 use lib.Dec.{eqb, leb, ltb}
 use lib.ListN.{length, getD, set}
@@ -16,14 +16,15 @@ use Rattle.base.specs.Size.{Huge, rowsOf}
 use Rattle.base.specs.Bits.{blockIs, withBits}
 use Rattle.base.proofs.Walks.{pick-case}
 use Rattle.base.proofs.Written.{written-beyond}
-use Rattle.base.proofs.Sizes.{rows-frames}
 use Rattle.base.proofs.Writes.{with-beyond}
-use Rattle.shape.specs.Shape.{hugeOf, ceil, mark, rowsNeeded, entriesNeeded}
+use Rattle.shape.specs.Shape.{hugeOf, mark, rowsNeeded, entriesNeeded}
 use Rattle.shape.specs.Refuse.{Sized, Blocked}
 use Rattle.shape.specs.declared.Got.{Got}
 use Rattle.shape.specs.State.{Mem, mem, sizes, block, start, entryOf, freeOf}
-use Rattle.shape.proofs.Laws.{ceil-covers, entries-cover, tree-pos}
-use Rattle.shape.proofs.Lent.{sized, blocked, started, present-rows, block-entries}
+use Rattle.shape.proofs.Laws.{entries-cover, tree-pos}
+use Rattle.shape.proofs.Present.{rows-enough, present-ends}
+use Rattle.shape.proofs.Needed.{whole-needed}
+use Rattle.shape.proofs.Lent.{sized, blocked, started, sized-exactly, blocked-exactly, block-entries}
 use Rattle.huge.specs.Huge.{groupOf, entriesAre, groupAt, groupsPassed, takeGroup, getHuge, getHugeAt, putHuge}
 use Rattle.small.specs.declared.Visit.{Visit}
 use Rattle.small.specs.declared.Visit.the-variants.{Pass, Damage, Place}
@@ -39,16 +40,10 @@ pub record Kept (h n t : ℕ) (m left : Mem) : Type 0 where
   pub entries : (i : ℕ) → entriesNeeded h n t ≤ i → getD (left .entries) i 0 ≡ getD (m .entries) i 0
 
 -- memory that is handed back
-same : (h n t : ℕ) (m : Mem) → Kept h n t m m
-same h n t m = record { rows = λ i _. refl; entries = λ i _. refl }
+pub same-kept : (h n t : ℕ) (m : Mem) → Kept h n t m m
+same-kept h n t m = record { rows = λ i _. refl; entries = λ i _. refl }
 
 module _ {h n t : ℕ} (H : Huge h) (s : Sized h n t (rowsNeeded h n) (entriesNeeded h n t)) where
-  -- the needed rows have the bits of all N frames
-  rows-reach : n ≤ rowsNeeded h n * 64
-  rows-reach =
-      let e : rowsNeeded h n * 64 ≡ ceil n (2 ^ h) * 2 ^ h = rw (rows-frames H) (omega (arith, mul-comm (rowsOf h) (ceil n (2 ^ h)))) in
-      omega (arith, ceil-covers n (2 ^ h) (pow-pos h))
-
   -- frames below N are written
   frames-kept : (b : Bool) (rs : List ℕ) (a e i : ℕ) → a ≤ e → e ≤ rowsNeeded h n * 64 → rowsNeeded h n ≤ i → getD (withBits b rs a e) i 0 ≡ getD rs i 0
   frames-kept b rs a e i l u k = with-beyond b rs a e i l (omega arith)
@@ -60,7 +55,7 @@ module _ {h n t : ℕ} (H : Huge h) (s : Sized h n t (rowsNeeded h n) (entriesNe
   -- a block that ends at or before N
   block-kept : (b : Bool) (m : Mem) (f o v : ℕ) → f + 2 ^ o ≤ n → Kept h n t m (mem (withBits b (m .rows) f (f + 2 ^ o)) (set (m .entries) (hugeOf h f) v))
   block-kept b m f o v l = record {
-    rows = λ i k. frames-kept b (m .rows) f (f + 2 ^ o) i (omega arith) (omega (arith, rows-reach)) k;
+    rows = λ i k. frames-kept b (m .rows) f (f + 2 ^ o) i (omega arith) (omega (arith, rows-enough H n)) k;
     entries = λ i k. entry-kept (m .entries) f v i (omega (arith, pow-pos o)) k;
   }
 
@@ -68,22 +63,11 @@ module _ {h n t : ℕ} (H : Huge h) (s : Sized h n t (rowsNeeded h n) (entriesNe
   group-kept : (m : Mem) (f : ℕ → ℕ) (at g : ℕ) → at + g ≤ entriesNeeded h n t → Kept h n t m (mem (m .rows) (written f (m .entries) at g))
   group-kept m f at g l = record { rows = λ i _. refl; entries = λ i k. written-beyond f (m .entries) at g i (omega arith) }
 
-  -- a run of entries whose huge frames end at or before N
-  groups-low : (k : ℕ) → k * 2 ^ h ≤ n → k ≤ entriesNeeded h n t
-  groups-low k l =
-      let c = ceil-covers n (2 ^ h * t) (mul-pos (pow-pos h) (tree-pos t (s .tree))) in
-      let e : entriesNeeded h n t * 2 ^ h ≡ ceil n (2 ^ h * t) * (2 ^ h * t) = swap t (ceil n (2 ^ h * t)) (2 ^ h) in
-      let below : k * 2 ^ h ≤ entriesNeeded h n t * 2 ^ h = omega arith in
-      le-of-mul-le-mul-right below (pow-pos h)
-    where
-      swap : (t c p : ℕ) → t * c * p ≡ c * (p * t)
-      swap t c p = omega arith
-
   -- ---- below the huge order
 
   ended-kept : (m : Mem) (row o p x : ℕ) (v : Visit) → visit h n m row o x ≡ v → Kept h n t m (ended h m o p v .left)
-  ended-kept m row o p x Pass e = same h n t m
-  ended-kept m row o p x Damage e = same h n t m
+  ended-kept m row o p x Pass e = same-kept h n t m
+  ended-kept m row o p x Damage e = same-kept h n t m
   ended-kept m row o p x (Place f) e = block-kept true m f o (entryOf (m .entries) (hugeOf h f) - 2 ^ o) (visit-free H n (m .rows) (m .entries) row o x f e .ends)
 
   get-small-kept : (m : Mem) (row o : ℕ) → Kept h n t m (getSmall h n t m row o .left)
@@ -91,15 +75,15 @@ module _ {h n t : ℕ} (H : Huge h) (s : Sized h n t (rowsNeeded h n) (entriesNe
   get-small-kept m row o =
       pick-case (λ (x : Out Got Mem). Kept h n t m (x .left)) (ltb (visitsPassed h n t m row o) t)
       (λ _. ended-kept m row o (visitsPassed h n t m row o + 1) (entryAt t (row / rowsOf h) (visitsPassed h n t m row o)) (visit h n m row o (entryAt t (row / rowsOf h) (visitsPassed h n t m row o))) refl)
-      (λ _. same h n t m)
+      (λ _. same-kept h n t m)
 
   get-small-at-kept : (m : Mem) (f o : ℕ) → f + 2 ^ o ≤ n → Kept h n t m (getSmallAt h m f o .left)
   unfolding getSmallAt
   get-small-at-kept m f o l =
       pick-case (λ (x : Out Got Mem). Kept h n t m (x .left)) (leb (2 ^ o) (freeOf (entryOf (m .entries) (hugeOf h f))))
       (λ _. pick-case (λ (x : Out Got Mem). Kept h n t m (x .left)) (blockIs false (m .rows) f (2 ^ o))
-      (λ _. block-kept true m f o (entryOf (m .entries) (hugeOf h f) - 2 ^ o) l) (λ _. same h n t m))
-      (λ _. same h n t m)
+      (λ _. block-kept true m f o (entryOf (m .entries) (hugeOf h f) - 2 ^ o) l) (λ _. same-kept h n t m))
+      (λ _. same-kept h n t m)
 
   -- a huge frame that is filled and then given back in part: it begins below N, so its rows are needed
   put-marked-kept : (m : Mem) (f o : ℕ) → f + 2 ^ o ≤ n → Kept h n t m (putMarked h m f o .left)
@@ -107,8 +91,7 @@ module _ {h n t : ℕ} (H : Huge h) (s : Sized h n t (rowsNeeded h n) (entriesNe
   put-marked-kept m f o l =
       let x = hugeOf h f in
       let low : f < n = omega (arith, pow-pos o) in
-      let size : x * 2 ^ h + 2 ^ h ≡ (x + 1) * rowsOf h * 64 = scaled x (2 ^ h) (rowsOf h) (rows-frames H) in
-      let ends : x * 2 ^ h + 2 ^ h ≤ rowsNeeded h n * 64 = omega (arith, present-rows H s x (omega (arith, div-add-mod' f (2 ^ h)))) in
+      let ends : x * 2 ^ h + 2 ^ h ≤ rowsNeeded h n * 64 = omega (arith, present-ends H n x (omega (arith, div-add-mod' f (2 ^ h)))) in
       let all = withBits true (m .rows) (x * 2 ^ h) (x * 2 ^ h + 2 ^ h) in
       let k = block-kept false (mem all (m .entries)) f o (2 ^ o) l in
       pick-case (λ (y : Out ℕ Mem). Kept h n t m (y .left)) (blockIs false (m .rows) (x * 2 ^ h) (2 ^ h))
@@ -116,16 +99,13 @@ module _ {h n t : ℕ} (H : Huge h) (s : Sized h n t (rowsNeeded h n) (entriesNe
         rows = λ i j. k .rows i j ∙ frames-kept true (m .rows) (x * 2 ^ h) (x * 2 ^ h + 2 ^ h) i (omega arith) ends j;
         entries = k .entries;
       })
-      (λ _. same h n t m)
-    where
-      scaled : (x p r : ℕ) → p ≡ r * 64 → x * p + p ≡ (x + 1) * r * 64
-      scaled x p r e = rw e (omega arith)
+      (λ _. same-kept h n t m)
 
   put-counted-kept : (m : Mem) (f o : ℕ) → f + 2 ^ o ≤ n → Kept h n t m (putCounted h m f o .left)
   unfolding putCounted
   put-counted-kept m f o l =
       pick-case (λ (x : Out ℕ Mem). Kept h n t m (x .left)) (leb (entryOf (m .entries) (hugeOf h f)) (2 ^ h - 2 ^ o) && blockIs true (m .rows) f (2 ^ o))
-      (λ _. block-kept false m f o (entryOf (m .entries) (hugeOf h f) + 2 ^ o) l) (λ _. same h n t m)
+      (λ _. block-kept false m f o (entryOf (m .entries) (hugeOf h f) + 2 ^ o) l) (λ _. same-kept h n t m)
 
   put-small-kept : (m : Mem) (f o : ℕ) → f + 2 ^ o ≤ n → Kept h n t m (putSmall h m f o .left)
   unfolding putSmall
@@ -141,38 +121,34 @@ module _ {h n t : ℕ} (H : Huge h) (s : Sized h n t (rowsNeeded h n) (entriesNe
       pick-case (λ (x : Out Got (List ℕ)). Kept h n t m (mem (m .rows) (x .left))) (ltb (groupsPassed h (m .entries) t (groupOf h o) (row / rowsOf h)) (t / groupOf h o))
       (λ _. take-kept (groupAt t (groupOf h o) (row / rowsOf h) (groupsPassed h (m .entries) t (groupOf h o) (row / rowsOf h))) (groupOf h o)
       (groupsPassed h (m .entries) t (groupOf h o) (row / rowsOf h) + 1))
-      (λ _. same h n t m)
+      (λ _. same-kept h n t m)
     where
       take-kept : (at g p : ℕ) → Kept h n t m (mem (m .rows) (takeGroup h n (m .entries) at g p .left))
       take-kept at g p =
           pick-case (λ (x : Out Got (List ℕ)). Kept h n t m (mem (m .rows) (x .left))) (leb ((at + g) * 2 ^ h) n)
-          (λ e. group-kept m (λ i. mark) at g (groups-low (at + g) (leb-true ((at + g) * 2 ^ h) n e))) (λ _. same h n t m)
+          (λ e. group-kept m (λ i. mark) at g (whole-needed h n t (at + g) (tree-pos t (s .tree)) (leb-true ((at + g) * 2 ^ h) n e))) (λ _. same-kept h n t m)
 
   module _ (m : Mem) (f o : ℕ) (low : f / 2 ^ h + groupOf h o ≤ entriesNeeded h n t) where
     get-huge-at-kept : Kept h n t m (mem (m .rows) (getHugeAt h (m .entries) f o .left))
     unfolding getHugeAt
     get-huge-at-kept =
         pick-case (λ (x : Out Got (List ℕ)). Kept h n t m (mem (m .rows) (x .left))) (entriesAre (2 ^ h) (m .entries) (f / 2 ^ h) (groupOf h o))
-        (λ _. group-kept m (λ i. mark) (f / 2 ^ h) (groupOf h o) low) (λ _. same h n t m)
+        (λ _. group-kept m (λ i. mark) (f / 2 ^ h) (groupOf h o) low) (λ _. same-kept h n t m)
 
     put-huge-kept : Kept h n t m (mem (m .rows) (putHuge h (m .entries) f o .left))
     unfolding putHuge
     put-huge-kept =
         pick-case (λ (x : Out ℕ (List ℕ)). Kept h n t m (mem (m .rows) (x .left))) (entriesAre mark (m .entries) (f / 2 ^ h) (groupOf h o))
-        (λ _. group-kept m (λ i. 2 ^ h) (f / 2 ^ h) (groupOf h o) low) (λ _. same h n t m)
+        (λ _. group-kept m (λ i. 2 ^ h) (f / 2 ^ h) (groupOf h o) low) (λ _. same-kept h n t m)
 
   -- ---- the starts
 
   starts-kept : (m : Mem) (c : ℕ) (f : ℕ → ℕ) → c ≤ n → Kept h n t m (mem (rowsFrom h n (m .rows) c) (written f (m .entries) 0 (entriesNeeded h n t)))
   starts-kept m c f l = record {
-    rows = λ i k. frames-kept true (withBits false (m .rows) 0 c) c (rowsNeeded h n * 64) i (omega (arith, rows-reach)) (omega arith) k
-        ∙ frames-kept false (m .rows) 0 c i (omega arith) (omega (arith, rows-reach)) k;
+    rows = λ i k. frames-kept true (withBits false (m .rows) 0 c) c (rowsNeeded h n * 64) i (omega (arith, rows-enough H n)) (omega arith) k
+        ∙ frames-kept false (m .rows) 0 c i (omega arith) (omega (arith, rows-enough H n)) k;
     entries = λ i k. written-beyond f (m .entries) 0 (entriesNeeded h n t) i (omega arith);
   }
-
--- what passing 1 to 3 says of the needed rows and entries themselves
-needed : {h n t rl el : ℕ} → Sized h n t rl el → Sized h n t (rowsNeeded h n) (entriesNeeded h n t)
-needed s = record { some = s .some; most = s .most; tree = s .tree; rows = omega arith; entries = omega arith }
 
 -- ---- the calls
 
@@ -181,40 +157,40 @@ module _ {h : ℕ} (H : Huge h) (n t : ℕ) (m : Mem) where
   unfolding spec.freeAll starts.freeAll
   free-all-beyond =
       pick-case (λ (x : Out ℕ Mem). Kept h n t m (x .left)) (eqb (sizes h n t m) 0)
-      (λ e. starts-kept H (needed (sized h n t _ _ (eqb-true _ 0 e))) m n (freeEntry h n) (omega arith)) (λ _. same h n t m)
+      (λ e. starts-kept H (sized-exactly (sized h n t _ _ (eqb-true _ 0 e))) m n (freeEntry h n) (omega arith)) (λ _. same-kept h n t m)
 
   pub reserve-all-beyond : Kept h n t m (spec.reserveAll h n t m .left)
   unfolding spec.reserveAll starts.reserveAll
   reserve-all-beyond =
       pick-case (λ (x : Out ℕ Mem). Kept h n t m (x .left)) (eqb (sizes h n t m) 0)
-      (λ e. starts-kept H (needed (sized h n t _ _ (eqb-true _ 0 e))) m (n / 2 ^ h * 2 ^ h) (heldEntry h n) (omega (arith, div-add-mod' n (2 ^ h)))) (λ _. same h n t m)
+      (λ e. starts-kept H (sized-exactly (sized h n t _ _ (eqb-true _ 0 e))) m (n / 2 ^ h * 2 ^ h) (heldEntry h n) (omega (arith, div-add-mod' n (2 ^ h)))) (λ _. same-kept h n t m)
 
   pub get-beyond : (row o : ℕ) → Kept h n t m (spec.get h n t m row o .left)
   unfolding spec.get
   get-beyond row o =
       pick-case (λ (x : Out Got Mem). Kept h n t m (x .left)) (eqb (start h n t m row o) 0)
-      (λ e. let s = needed (started h n t _ _ row o (eqb-true _ 0 e) .sized) in
+      (λ e. let s = sized-exactly (started h n t _ _ row o (eqb-true _ 0 e) .sized) in
       pick-case (λ (x : Out Got Mem). Kept h n t m (x .left)) (ltb o h) (λ _. get-small-kept H s m row o) (λ _. get-huge-kept H s m row o))
-      (λ _. same h n t m)
+      (λ _. same-kept h n t m)
 
   -- a block that passed its checks, and of the huge order or above its group of entries
   group-low : (f o : ℕ) → Blocked h n t (length (m .rows)) (length (m .entries)) f o → h ≤ o → f / 2 ^ h + groupOf h o ≤ entriesNeeded h n t
-  group-low f o b l = block-entries H (record { sized = needed (b .sized); top = b .top; ends = b .ends; even = b .even }) l
+  group-low f o b l = block-entries H (blocked-exactly b) l
 
   pub get-at-beyond : (f o : ℕ) → Kept h n t m (spec.getAt h n t m f o .left)
   unfolding spec.getAt
   get-at-beyond f o =
       pick-case (λ (x : Out Got Mem). Kept h n t m (x .left)) (eqb (block h n t m f o) 0)
       (λ e. let b = blocked h n t _ _ f o (eqb-true _ 0 e) in
-      pick-case (λ (x : Out Got Mem). Kept h n t m (x .left)) (ltb o h) (λ _. get-small-at-kept H (needed (b .sized)) m f o (b .ends))
-      (λ l. get-huge-at-kept H (needed (b .sized)) m f o (group-low f o b (ltb-false o h l))))
-      (λ _. same h n t m)
+      pick-case (λ (x : Out Got Mem). Kept h n t m (x .left)) (ltb o h) (λ _. get-small-at-kept H (sized-exactly (b .sized)) m f o (b .ends))
+      (λ l. get-huge-at-kept H (sized-exactly (b .sized)) m f o (group-low f o b (ltb-false o h l))))
+      (λ _. same-kept h n t m)
 
   pub put-beyond : (f o : ℕ) → Kept h n t m (spec.put h n t m f o .left)
   unfolding spec.put
   put-beyond f o =
       pick-case (λ (x : Out ℕ Mem). Kept h n t m (x .left)) (eqb (block h n t m f o) 0)
       (λ e. let b = blocked h n t _ _ f o (eqb-true _ 0 e) in
-      pick-case (λ (x : Out ℕ Mem). Kept h n t m (x .left)) (ltb o h) (λ _. put-small-kept H (needed (b .sized)) m f o (b .ends))
-      (λ l. put-huge-kept H (needed (b .sized)) m f o (group-low f o b (ltb-false o h l))))
-      (λ _. same h n t m)
+      pick-case (λ (x : Out ℕ Mem). Kept h n t m (x .left)) (ltb o h) (λ _. put-small-kept H (sized-exactly (b .sized)) m f o (b .ends))
+      (λ l. put-huge-kept H (sized-exactly (b .sized)) m f o (group-low f o b (ltb-false o h l))))
+      (λ _. same-kept h n t m)

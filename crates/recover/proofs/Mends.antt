@@ -2,12 +2,11 @@
 use mathlib.Core.Path.{_≡_, refl, sym, ap, ap₂, _∙_}
 use mathlib.Core.Bool.{Bool, true, false, not}
 use mathlib.Core.List.{List, _++_}
-use Prim.Native.Nat.{ℕ, _+_, _-_, _*_, _/_, _^_, _≤_, _<_}
-use native.Mathlib.Nat.{add-zero, mul-assoc}
+use Prim.Native.Nat.{ℕ, _+_, _*_, _/_, _^_, _≤_, _<_}
+use native.Mathlib.Nat.{add-zero}
 use native.Mathlib.Decide.{ℕ-discrete}
 use native.Mathlib.Omega.{arith}
 use lib.Dec.{eqb}
-use lib.Pow.{high}
 use lib.ListN.{length, getD, set, take, drop, replicate}
 use lib.Seq.{set-getD}
 use borrow.Author.Tests.{eq-eqb, ne-eqb, eqb-true, eqb-false}
@@ -17,7 +16,8 @@ use Rattle.base.specs.Size.{Huge, rowsOf}
 use Rattle.base.specs.Bits.{bitIs, blockIs}
 use Rattle.base.proofs.Walks.{all-each, all-of, all-same, all-shift, count-le}
 use Rattle.base.proofs.Written.{written-same, written-stays, solid-part}
-use Rattle.base.proofs.Sizes.{rows-frames, frames-fit}
+use Rattle.base.proofs.Rests.{quotient-is}
+use Rattle.base.proofs.Sizes.{first-row, rows-frames, frames-fit}
 use Rattle.base.proofs.Rows.{block-rows}
 use Rattle.base.proofs.Parts.{part-long}
 use Rattle.shape.specs.Shape.{mark}
@@ -34,9 +34,7 @@ module _ (h x : ℕ) where
   Its i = (x * rowsOf h ≤ i) × (i < x * rowsOf h + rowsOf h)
 
   pub its-huge : (i : ℕ) → Its i → i / rowsOf h ≡ x
-  its-huge i w =
-      let e : x * rowsOf h + (i - x * rowsOf h) ≡ i = omega arith in
-      ap (λ (k : ℕ). k / rowsOf h) (sym e) ∙ high x (h - 6) (omega arith)
+  its-huge i w = quotient-is (rowsOf h) x i (w .0) (w .1)
 
   module _ (rs es : List ℕ) where
     -- under a mark they are cleared
@@ -55,10 +53,9 @@ zeros-fit {h} H rs x e = omega (arith, count-le (bitIs false rs) (2 ^ h) (x * 2 
 module _ {h : ℕ} (H : Huge h) (rs : List ℕ) (x : ℕ) (fits : (j : ℕ) → getD rs j 0 < 2 ^ 64) where
   pub rows-clear : all (λ i. eqb (getD rs i 0) 0) (rowsOf h) (x * rowsOf h) ≡ eqb (clearOf h rs x) (2 ^ h)
   rows-clear =
-      let first : x * rowsOf h * 64 ≡ x * 2 ^ h = rw (rows-frames H) (mul-assoc x (rowsOf h) 64) in
       ap (all (λ i. eqb (getD rs i 0) 0) (rowsOf h)) (sym (add-zero (x * rowsOf h)))
       ∙ sym (all-shift (λ i. eqb (getD rs i 0) 0) (x * rowsOf h) (rowsOf h) 0)
-      ∙ sym (block-rows false rs fits (x * rowsOf h) (rowsOf h)) ∙ ap₂ (blockIs false rs) first (sym (rows-frames H)) ∙ counted (eqb (clearOf h rs x) (2 ^ h)) refl
+      ∙ sym (block-rows false rs fits (x * rowsOf h) (rowsOf h)) ∙ ap₂ (blockIs false rs) (first-row H x) (sym (rows-frames H)) ∙ counted (eqb (clearOf h rs x) (2 ^ h)) refl
     where
       counted : (b : Bool) → eqb (clearOf h rs x) (2 ^ h) ≡ b → blockIs false rs (x * 2 ^ h) (2 ^ h) ≡ b
       counted true e = all-are-clear h rs x (eqb-true _ _ e)

@@ -1,12 +1,14 @@
 -- One entry: its free count, and the entry of a huge frame that is free whole. Assumes nothing.
-use mathlib.Core.Path.{_≡_}
+use mathlib.Core.Path.{_≡_, sym, _∙_}
 use Prim.Native.Nat.{ℕ, _*_, _%_, _^_, _≤_, _<_, zero-le}
+use native.Mathlib.Decide.{ℕ-discrete}
 use native.Mathlib.Omega.{arith}
 use lib.Dec.{eqb}
+use lib.Pow.{pow-pos}
 use borrow.Author.Tests.{eq-eqb, ne-eqb}
 use Rattle.base.specs.Size.{Huge}
 use Rattle.base.proofs.Masks.{shl-one}
-use Rattle.base.proofs.Sizes.{huge-high}
+use Rattle.base.proofs.Sizes.{huge-high, frames-fit}
 use Rattle.base.proofs.Walks.{pick-case}
 use Rattle.shape.specs.Shape.{mark}
 use Rattle.shape.specs.State.{freeOf}
@@ -26,3 +28,14 @@ free-most e l = pick-case (λ (x : ℕ). x ≤ mark) (eqb e mark) (λ _. zero-le
 -- the entry of a huge frame that is free whole has room for its count: what `1 << h` is in 16 bits
 pub whole-entry : {h : ℕ} → Huge h → 1 * 2 ^ h % 2 ^ 16 ≡ 2 ^ h
 whole-entry {h} H = shl-one 16 h (omega (arith, huge-high H))
+
+-- it is not the mark
+pub whole-not-mark : {h e : ℕ} → Huge h → e ≡ 2 ^ h → e ≡ mark → ⊥
+whole-not-mark H q k = omega (arith, frames-fit H)
+
+-- and is told by its free count
+pub whole-free : {h : ℕ} (e : ℕ) → Huge h → eqb (freeOf e) (2 ^ h) ≡ eqb e (2 ^ h)
+whole-free {h} e H = elim (ℕ-discrete e mark) [
+  | yes k ↦ rw (← free-mark k) (ne-eqb 0 (2 ^ h) (λ z. omega (arith, pow-pos h)) ∙ sym (ne-eqb e (2 ^ h) (λ q. whole-not-mark H q k)))
+  | no k ↦ rw (← free-own k)
+]

@@ -1,16 +1,16 @@
 -- What callers use of document 01's numbers in place of the definitions' text, once for every huge order h and tree size t. Assumes nothing.
-use mathlib.Core.Path.{_≡_, refl, sym}
+use mathlib.Core.Path.{_≡_, refl, sym, ap, _∙_}
 use mathlib.Core.Bool.{true}
-use Prim.Native.Nat.{ℕ, _+_, _-_, _*_, _/_, _^_, _≤_, _<_}
-use native.Mathlib.Nat.{mul-comm, mul-pos, div-div-eq-div-mul, div-lt-iff-lt-mul, lt-div-mul-add}
+use Prim.Native.Nat.{ℕ, _+_, _-_, _*_, _/_, _%_, _^_, _≤_, _<_}
+use native.Mathlib.Nat.{mul-comm, mul-pos, mul-div-cancel, zero-mod, div-add-mod', div-div-eq-div-mul, div-lt-iff-lt-mul, lt-div-mul-add}
 use native.Mathlib.Omega.{arith}
 use lib.Dec.{eqb, lit<}
 use lib.Pow.{pow-pos, pow-lt, pow-mono}
 use borrow.Author.Tests.{eq-eqb, ne-eqb, eqb-true, lt-ltb, ltb-true}
 use Rattle.base.specs.Size.{Huge, rowsOf}
 use Rattle.base.proofs.Walks.{first-hit, first-is}
-use Rattle.base.proofs.Sizes.{rows-frames}
-use Rattle.shape.specs.Shape.{rowOf, hugeOf, treeLog, isTree, ceil, rowsNeeded, entriesNeeded}
+use Rattle.base.proofs.Sizes.{rows-frames, rest-by-less}
+use Rattle.shape.specs.Shape.{rowOf, hugeOf, treeOf, treeLog, isTree, ceil, rowsNeeded, entriesNeeded}
 
 -- ---- tree sizes
 
@@ -46,6 +46,16 @@ pow-tree k h = rw (tree-is k h) (lt-ltb k 10 h)
 pub huge-of-row : {h : ℕ} (f : ℕ) → Huge h → hugeOf h f ≡ rowOf f / rowsOf h
 huge-of-row {h} f huge = rw (rows-frames huge, mul-comm (rowsOf h) 64) (sym (div-div-eq-div-mul f 64 (rowsOf h)))
 
+pub huge-by-rows : {h : ℕ} (row : ℕ) → Huge h → hugeOf h (row * 64) ≡ row / rowsOf h
+huge-by-rows {h} row H = huge-of-row (row * 64) H ∙ ap (λ (r : ℕ). r / rowsOf h) (mul-div-cancel row (lit< tt))
+
+-- the tree of a frame is that of its huge frame
+pub tree-of-huge : (h t f : ℕ) → treeOf h t f ≡ hugeOf h f / t
+tree-of-huge h t f = sym (div-div-eq-div-mul f (2 ^ h) t)
+
+pub tree-by-rows : {h : ℕ} (t row : ℕ) → Huge h → treeOf h t (row * 64) ≡ row / rowsOf h / t
+tree-by-rows {h} t row H = tree-of-huge h t (row * 64) ∙ ap (λ (x : ℕ). x / t) (huge-by-rows row H)
+
 -- ---- how much is lent
 
 -- rounded up, a quotient covers what is divided
@@ -64,3 +74,9 @@ rows-cover {h} n f huge l =
 -- and its huge frame an entry among those that n frames need, in trees of t
 pub entries-cover : (h n t f : ℕ) → 0 < t → f < n → hugeOf h f < entriesNeeded h n t
 entries-cover h n t f p l = div-lt-iff-lt-mul (pow-pos h) .1 (omega (arith, ceil-covers n (2 ^ h * t) (mul-pos (pow-pos h) p)))
+
+-- an aligned block begins with a huge frame
+pub block-begins : (h f o : ℕ) → h ≤ o → f % 2 ^ o ≡ 0 → hugeOf h f * 2 ^ h ≡ f
+block-begins h f o l e =
+    let even : f % 2 ^ h ≡ 0 = sym (rest-by-less f h o l) ∙ ap (λ (r : ℕ). r % 2 ^ h) e ∙ zero-mod (2 ^ h) in
+    omega (arith, div-add-mod' f (2 ^ h))

@@ -1,19 +1,23 @@
 -- What passing the refusals means, and so which rows and entries are lent. Assumes nothing.
-use mathlib.Core.Path.{_≡_, sym, ap, _∙_}
-use Prim.Native.Nat.{ℕ, zero, suc, _+_, _-_, _*_, _/_, _%_, _^_, _≤_, _<_}
-use native.Mathlib.Nat.{sub-add-cancel, zero-mod, mul-pos, mul-le-mul-right, div-add-mod', mul-comm, lt-of-mul-lt-mul-right}
+use mathlib.Core.Path.{_≡_, refl, ap, _∙_}
+use Prim.Native.Nat.{ℕ, _+_, _-_, _*_, _/_, _%_, _^_, _≤_, _<_}
+use native.Mathlib.Nat.{mul-assoc, mul-div-cancel, lt-div-mul-add, mul-pos, mul-le-mul-right, div-add-mod', mul-comm}
 use native.Mathlib.Omega.{arith}
 use lib.Dec.{leb, ltb}
-use lib.Pow.{pow-pos, high, ones-lt, mod-mod-pow}
+use lib.Pow.{pow-pos}
 use borrow.Author.Tests.{lt-ltb, le-leb, leb-true, ltb-true, eqb-true}
 use Rattle.base.specs.Code.{unless, orElse}
 use Rattle.base.specs.Size.{Huge, rowsOf}
-use Rattle.base.proofs.Codes.{none-of, holds, both}
-use Rattle.base.proofs.Sizes.{rows-frames, pow-divides}
-use Rattle.shape.specs.Shape.{topOrder, aligned, ceil, rowsNeeded, entriesNeeded}
+use Rattle.base.proofs.Tests.{both}
+use Rattle.base.proofs.Codes.{none-of, holds}
+use Rattle.base.proofs.Sizes.{pow-divides}
+use Rattle.base.proofs.Rests.{block-ends}
+use Rattle.shape.specs.Shape.{treeOf, topOrder, aligned, ceil, rowsNeeded, entriesNeeded}
 use Rattle.shape.specs.Refuse.{framesCode, treeCode, lentCode, sizesCode, orderCode, blockCode, startCode, frameCode, Sized, Blocked, Started, Framed}
 use Rattle.shape.proofs.Present.{present-low}
-use Rattle.shape.proofs.Laws.{ceil-covers, entries-cover, tree-pos}
+use Rattle.shape.proofs.Laws.{tree-by-rows, entries-cover, block-begins, tree-pos}
+use Rattle.shape.proofs.Trees.{tree-frames}
+use Rattle.shape.proofs.Needed.{tree-covers, tree-needed, whole-needed}
 
 -- ---- what passing means
 
@@ -63,6 +67,17 @@ framed h n t rl el f e =
     let a = none-of (sizesCode h n t rl el) (unless (ltb f n) 5) e in
     record { sized = sized h n t rl el (a .0); below = ltb-true f n (holds _ 4 (a .1)) }
 
+-- ---- what passed would pass with no more lent than is needed
+
+pub sized-exactly : {h n t rl el : ℕ} → Sized h n t rl el → Sized h n t (rowsNeeded h n) (entriesNeeded h n t)
+sized-exactly s = record { some = s .some; most = s .most; tree = s .tree; rows = omega arith; entries = omega arith }
+
+pub blocked-exactly : {h n t rl el f o : ℕ} → Blocked h n t rl el f o → Blocked h n t (rowsNeeded h n) (entriesNeeded h n t) f o
+blocked-exactly b = record { sized = sized-exactly (b .sized); top = b .top; ends = b .ends; even = b .even }
+
+pub started-exactly : {h n t rl el row o : ℕ} → Started h n t rl el row o → Started h n t (rowsNeeded h n) (entriesNeeded h n t) row o
+started-exactly b = record { sized = sized-exactly (b .sized); top = b .top; begins = b .begins }
+
 -- ---- the rows of a present huge frame are lent
 
 module _ {h n t rl el : ℕ} (H : Huge h) (s : Sized h n t rl el) where
@@ -74,10 +89,9 @@ module _ {h n t rl el : ℕ} (H : Huge h) (s : Sized h n t rl el) where
   -- ---- the entries of a tree that begins below N are lent
   pub tree-entries : (y : ℕ) → y * (2 ^ h * t) < n → (y + 1) * t ≤ el
   tree-entries y l =
-      let p : 0 < 2 ^ h * t = mul-pos (pow-pos h) (tree-pos t (s .tree)) in
-      let low : y < ceil n (2 ^ h * t) = lt-of-mul-lt-mul-right (2 ^ h * t) (omega (arith, ceil-covers n (2 ^ h * t) p)) in
-      let m : (y + 1) * t ≤ ceil n (2 ^ h * t) * t = mul-le-mul-right t (omega arith) in
-      omega (arith, s .entries, mul-comm t (ceil n (2 ^ h * t)))
+      let pos = tree-pos t (s .tree) in
+      let low : y < ceil n (2 ^ h * t) = rw (mul-div-cancel y (mul-pos (pow-pos h) pos)) at (tree-covers h n t (y * (2 ^ h * t)) pos l) in
+      omega (arith, s .entries, tree-needed h n t y low)
 
 -- ---- a frame's entry and rows are lent, and its tree's entries
 
@@ -107,31 +121,19 @@ module _ {h n t rl el f o : ℕ} (H : Huge h) (b : Blocked h n t rl el f o) wher
   -- from the huge order on, all its entries
   pub block-entries : h ≤ o → f / 2 ^ h + 2 ^ (o - h) ≤ el
   block-entries l =
-      let w = pow-divides h o l in
-      let p = pow-pos h in
-      let g = pow-pos (o - h) in
-      let z : f % 2 ^ h ≡ 0 = sym (mod-mod-pow f (o - h) h) ∙ ap (λ (k : ℕ). f % 2 ^ k % 2 ^ h) (sub-add-cancel l) ∙ ap (λ (x : ℕ). x % 2 ^ h) (b .even) ∙ zero-mod (2 ^ h) in
-      let d = div-add-mod' f (2 ^ h) in
-      let last : f + 2 ^ o - 1 ≡ (f / 2 ^ h + 2 ^ (o - h) - 1) * 2 ^ h + (2 ^ h - 1) = whole (f / 2 ^ h) (2 ^ (o - h)) (2 ^ h) f (2 ^ o) (omega arith) (sym w) p g in
-      let at : (f + 2 ^ o - 1) / 2 ^ h ≡ f / 2 ^ h + 2 ^ (o - h) - 1 = ap (λ (x : ℕ). x / 2 ^ h) last ∙ high (f / 2 ^ h + 2 ^ (o - h) - 1) h (ones-lt h) in
-      omega (arith, b .sized .entries, entries-cover h n t (f + 2 ^ o - 1) (tree-pos t (b .sized .tree)) (omega (arith, b .ends, pow-pos o)))
-    where
-      whole : (q g H F O : ℕ) → F ≡ q * H → O ≡ g * H → 0 < H → 0 < g → F + O - 1 ≡ (q + g - 1) * H + (H - 1)
-      whole q (suc g) H F O x y p r =
-          let e : q + suc g - 1 ≡ q + g = omega arith in
-          rw (x, y, e) (omega arith)
-      whole q zero H F O x y p r = absurd (omega arith)
+      let last : (f / 2 ^ h + 2 ^ (o - h)) * 2 ^ h ≤ n = omega (arith, block-begins h f o l (b .even), pow-divides h o l, b .ends) in
+      omega (arith, b .sized .entries, whole-needed h n t (f / 2 ^ h + 2 ^ (o - h)) (tree-pos t (b .sized .tree)) last)
+
+-- and it ends in the tree it begins in
+pub block-in-tree : {h n t rl el f o : ℕ} → Blocked h n t rl el f o → f + 2 ^ o ≤ (treeOf h t f + 1) * (2 ^ h * t)
+block-in-tree {h} {t = t} {f = f} {o} b =
+    let size : 2 ^ (topOrder h t - o) * 2 ^ o ≡ 2 ^ h * t = pow-divides o (topOrder h t) (b .top) ∙ tree-frames t (b .sized .tree) refl h in
+    let all = mul-assoc (treeOf h t f + 1) (2 ^ (topOrder h t - o)) (2 ^ o) ∙ ap (λ (s : ℕ). (treeOf h t f + 1) * s) size in
+    let low = lt-div-mul-add {a = f} {b = 2 ^ h * t} (mul-pos (pow-pos h) (tree-pos t (b .sized .tree))) in
+    rw all at (block-ends f (2 ^ o) ((treeOf h t f + 1) * 2 ^ (topOrder h t - o)) (b .even) (rw all (omega arith)))
 
 -- ---- the entries of a start row's tree are lent
 
 module _ {h n t rl el row o : ℕ} (H : Huge h) (b : Started h n t rl el row o) where
   pub start-tree : (row / rowsOf h / t + 1) * t ≤ el
-  start-tree =
-      let x = div-add-mod' row (rowsOf h) in
-      let y = div-add-mod' (row / rowsOf h) t in
-      let m : row / rowsOf h / t * t * rowsOf h ≤ row / rowsOf h * rowsOf h = mul-le-mul-right (rowsOf h) (omega arith) in
-      let e : row / rowsOf h / t * (2 ^ h * t) ≡ row / rowsOf h / t * t * rowsOf h * 64 = rw (rows-frames H) (four (row / rowsOf h / t) (rowsOf h) t) in
-      tree-entries H (b .sized) (row / rowsOf h / t) (omega (arith, b .begins))
-    where
-      four : (a r t : ℕ) → a * (r * 64 * t) ≡ a * t * r * 64
-      four a r t = omega arith
+  start-tree = rw (← tree-by-rows t row H) (frame-tree H (record { sized = b .sized; below = b .begins }))

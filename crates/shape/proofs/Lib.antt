@@ -2,6 +2,6 @@ pub mod Laws
 pub mod Trees
 pub mod Ceils
 pub mod Present
-pub mod Lent
 pub mod Needed
+pub mod Lent
 pub mod Entries

@@ -1,14 +1,14 @@
 -- The entries that n frames need: how many they are, and that what the code computes of their numbers fits. Assumes nothing.
 use mathlib.Core.Path.{_≡_}
 use Prim.Native.Nat.{ℕ, suc, _+_, _-_, _*_, _/_, _^_, _≤_, _<_}
-use native.Mathlib.Nat.{mul-comm, mul-div-cancel, mul-le-mul, mul-le-mul-right, div-mul-le-self, lt-of-mul-lt-mul-right}
+use native.Mathlib.Nat.{mul-comm, mul-pos, mul-div-cancel, mul-le-mul, mul-le-mul-right, le-of-mul-le-mul-right, div-lt-iff-lt-mul, div-mul-le-self, lt-of-mul-lt-mul-right}
 use native.Mathlib.Omega.{arith}
-use lib.Pow.{pow-mono}
+use lib.Pow.{pow-pos, pow-mono}
 use Rattle.base.specs.Size.{Huge, nine, eleven}
 use Rattle.base.proofs.Sizes.{huge-low, frames-fit}
 use Rattle.shape.specs.Refuse.{Sized}
-use Rattle.shape.specs.Shape.{treeLog, ceil, entriesNeeded}
-use Rattle.shape.proofs.Laws.{tree-pos, tree-high}
+use Rattle.shape.specs.Shape.{treeOf, treeLog, ceil, entriesNeeded}
+use Rattle.shape.proofs.Laws.{tree-pos, tree-high, ceil-covers}
 use Rattle.shape.proofs.Trees.{log-pow}
 
 -- a million huge frames are far fewer frames than a word counts
@@ -19,6 +19,29 @@ frames-word H l = omega (arith, mul-le-mul l (frames-fit H))
 needed-most : {h : ℕ} (n t : ℕ) → Huge h → n ≤ 1048576 → t ≤ 512 → entriesNeeded h n t ≤ 2560
 needed-most n t nine l m = omega (arith, div-mul-le-self (n + (2 ^ 9 * t - 1)) (2 ^ 9 * t))
 needed-most n t eleven l m = omega (arith, div-mul-le-self (n + (2 ^ 11 * t - 1)) (2 ^ 11 * t))
+
+module _ (h n t : ℕ) where
+  -- the tree of a frame below N is one of theirs
+  pub tree-covers : (f : ℕ) → 0 < t → f < n → treeOf h t f < ceil n (2 ^ h * t)
+  tree-covers f p l =
+      let q : 0 < 2 ^ h * t = mul-pos (pow-pos h) p in
+      div-lt-iff-lt-mul q .1 (omega (arith, ceil-covers n (2 ^ h * t) q))
+
+  -- the entries of such a tree are needed
+  pub tree-needed : (y : ℕ) → y < ceil n (2 ^ h * t) → y * t + t ≤ entriesNeeded h n t
+  tree-needed y l =
+      let ends : (y + 1) * t ≤ ceil n (2 ^ h * t) * t = mul-le-mul-right t (omega arith) in
+      omega (arith, mul-comm t (ceil n (2 ^ h * t)))
+
+  -- all frames belong to needed entries
+  pub needed-cover : 0 < t → n ≤ entriesNeeded h n t * 2 ^ h
+  needed-cover p = omega (arith, ceil-covers n (2 ^ h * t) (mul-pos (pow-pos h) p))
+
+  -- so as many huge frames as end at or before N have needed entries
+  pub whole-needed : (k : ℕ) → 0 < t → k * 2 ^ h ≤ n → k ≤ entriesNeeded h n t
+  whole-needed k p l =
+      let below : k * 2 ^ h ≤ entriesNeeded h n t * 2 ^ h = omega (arith, needed-cover p) in
+      le-of-mul-le-mul-right below (pow-pos h)
 
 module _ {h n t rl el : ℕ} (s : Sized h n t rl el) where
   -- the code asks for them with T's logarithm

@@ -9,13 +9,13 @@ use lib.Pow.{pow-pos}
 use lib.ListN.{length}
 use Rattle.base.specs.Size.{Huge, rowsOf}
 use Rattle.base.specs.Bits.{blockIs, withBits}
-use Rattle.base.proofs.Sizes.{huge-high, rows-frames}
+use Rattle.base.proofs.Sizes.{huge-high, rows-frames, first-row}
 use Rattle.base.proofs.Masks.{shl-one}
 use Rattle.base.proofs.Frames.{bit-written, block-of}
 use Rattle.bits.specs.Block.{Block}
 use Rattle.shape.specs.Refuse.{Blocked}
+use Rattle.shape.proofs.Present.{block-within}
 use Rattle.shape.proofs.Lent.{block-entry, block-row}
-use Rattle.small.proofs.Turns.{first-row, placed-within}
 
 -- ---- the sizes of the block and of a huge frame, as the code has them: shifts of 16 bits
 
@@ -60,15 +60,11 @@ module _ {h n t rl el f o : ℕ} (H : Huge h) (low : o < h) (b : Blocked h n t r
   frames-lent : f / 2 ^ h * 2 ^ h + 2 ^ h ≤ rl * 64
   frames-lent =
       let l : (f / 2 ^ h + 1) * rowsOf h * 64 ≤ rl * 64 = mul-le-mul-right 64 (block-row H b) in
-      omega (arith, first-row H f, rows-frames H)
+      omega (arith, first-row H (f / 2 ^ h), rows-frames H)
 
-  -- it ends within them
-  frame-ends : f + 2 ^ o ≤ f / 2 ^ h * 2 ^ h + 2 ^ h
-  frame-ends = omega (arith, div-add-mod' f (2 ^ h), placed-within f o order-low (b .even) .ends)
-
-  -- so it lies in the lent rows
+  -- so the block lies in the lent rows
   pub block-asked : {rows : List ℕ} → length rows ≡ rl → Block rows f o
-  block-asked e = record { order = omega (arith, order-fits H low); ends = omega (arith, frames-lent, frame-ends); aligned = b .even }
+  block-asked e = record { order = omega (arith, order-fits H low); ends = omega (arith, frames-lent, block-within f o low (b .even)); aligned = b .even }
 
   -- g is the first frame of its huge frame
   module _ {g : ℕ} (g-is : g ≡ f / 2 ^ h * 2 ^ h) where
@@ -90,4 +86,4 @@ module _ {h n t rl el f o : ℕ} (H : Huge h) (low : o < h) (b : Blocked h n t r
     pub whole-set : (rows : List ℕ) → length rows ≡ rl → blockIs true (withBits true rows g (g + 2 ^ h)) f (2 ^ o) ≡ true
     whole-set rows e =
         block-of true (withBits true rows g (g + 2 ^ h)) f (2 ^ o)
-        (λ j lo hi. bit-written true rows g (g + 2 ^ h) (omega arith) true j (omega (arith, frames-lent, frame-ends)) (omega (arith, first-low)) (omega (arith, frame-ends)))
+        (λ j lo hi. bit-written true rows g (g + 2 ^ h) (omega arith) true j (omega (arith, frames-lent, block-within f o low (b .even))) (omega (arith, first-low)) (omega (arith, block-within f o low (b .even))))

@@ -2,18 +2,16 @@
 use mathlib.Core.Path.{_≡_, refl, sym, ap, _∙_}
 use mathlib.Core.Bool.{Bool, true, false, not}
 use mathlib.Core.List.{List, _++_}
-use Prim.Native.Nat.{ℕ, _+_, _-_, _*_, _/_, _%_, _^_, _≤_, _<_}
-use native.Mathlib.Nat.{mul-assoc, sub-add-cancel, mod-lt, div-add-mod'}
+use Prim.Native.Nat.{ℕ, _+_, _*_, _/_, _%_, _^_, _≤_}
+use native.Mathlib.Nat.{div-add-mod'}
 use native.Mathlib.Omega.{arith}
-use lib.Pow.{pow-pos, mod-mod-pow}
 use lib.ListN.{length, take, drop, length-drop, take-append-drop}
 use lib.Seq.{length-take-le}
 use borrow.Author.Tests.{eq-eqb, le-leb}
 use Rattle.base.specs.Code.{Out, out, orElse}
 use Rattle.base.specs.Size.{Huge, rowsOf}
 use Rattle.base.specs.Bits.{blockIs, withBits}
-use Rattle.base.proofs.Sizes.{rows-frames, pow-divides}
-use Rattle.base.proofs.Rests.{block-ends}
+use Rattle.base.proofs.Sizes.{rows-frames, first-row, rest-by-less, place-ends}
 use Rattle.base.proofs.Parts.{block-part, with-part}
 use Rattle.bitfield.specs.Calls.{blockCode, toggle}
 use Rattle.bitfield.proofs.Laws.{Within}
@@ -25,31 +23,13 @@ unrefused : {h len p o : ℕ} → Within h len p o → blockCode h len p o ≡ 0
 unfolding orElse
 unrefused w = rw (eq-eqb _ _ (w .rows), le-leb _ _ (w .order), le-leb _ _ (w .ends), eq-eqb _ _ (w .aligned))
 
--- the first row of a frame's huge frame begins with the huge frame's first frame
-pub first-row : {h : ℕ} → Huge h → (f : ℕ) → f / 2 ^ h * rowsOf h * 64 ≡ f / 2 ^ h * 2 ^ h
-first-row {h} H f = mul-assoc (f / 2 ^ h) (rowsOf h) 64 ∙ ap (λ (k : ℕ). f / 2 ^ h * k) (sym (rows-frames H))
-
--- so that row is no later than the frame's own
+-- the first row of a frame's huge frame is no later than the frame's own
 pub first-row-low : {h : ℕ} → Huge h → (f : ℕ) → f / 2 ^ h * rowsOf h * 64 ≤ f
-first-row-low {h} H f = omega (arith, first-row H f, div-add-mod' f (2 ^ h))
+first-row-low {h} H f = omega (arith, first-row H (f / 2 ^ h), div-add-mod' f (2 ^ h))
 
--- ---- an aligned block of at most a huge frame
-
-module _ {h : ℕ} (f o : ℕ) (low : o ≤ h) (even : f % 2 ^ o ≡ 0) where
-  -- its place in its huge frame is aligned
-  place-even : f % 2 ^ h % 2 ^ o ≡ 0
-  place-even = ap (λ (k : ℕ). f % 2 ^ k % 2 ^ o) (sym (sub-add-cancel low)) ∙ mod-mod-pow f (h - o) o ∙ even
-
-  -- it ends there
-  place-ends : f % 2 ^ h + 2 ^ o ≤ 2 ^ h
-  place-ends =
-      let w = pow-divides o h low in
-      let l : f % 2 ^ h < 2 ^ (h - o) * 2 ^ o = rw w (mod-lt f (pow-pos h)) in
-      rw w at (block-ends (f % 2 ^ h) (2 ^ o) (2 ^ (h - o)) place-even l)
-
-  -- so it lies in one huge frame
-  pub placed-within : Within h (rowsOf h) (f % 2 ^ h) o
-  placed-within = record { rows = refl; order = low; ends = place-ends; aligned = place-even }
+-- an aligned block of at most a huge frame lies in one
+pub placed-within : {h : ℕ} (f o : ℕ) → o ≤ h → f % 2 ^ o ≡ 0 → Within h (rowsOf h) (f % 2 ^ h) o
+placed-within {h} f o low even = record { rows = refl; order = low; ends = place-ends f o h low even; aligned = rest-by-less f o h low ∙ even }
 
 module _ {h : ℕ} (H : Huge h) (rows : List ℕ) (f o : ℕ) (b : Bool) (low : o ≤ h) (even : f % 2 ^ o ≡ 0) (lent : (f / 2 ^ h + 1) * rowsOf h ≤ length rows) where
   -- the huge frame's k rows from row a on are lent, with the block at their place p, and come back as ys
@@ -81,7 +61,7 @@ module _ {h : ℕ} (H : Huge h) (rows : List ℕ) (f o : ℕ) (b : Bool) (low : 
       ends = rw (ek, ← rows-frames H) (within .ends)
 
       at : a * 64 + p ≡ f
-      at = rw (ea, ep, first-row H f) (div-add-mod' f (2 ^ h))
+      at = rw (ea, ep, first-row H (f / 2 ^ h)) (div-add-mod' f (2 ^ h))
 
       is : blockIs b part p (2 ^ o) ≡ blockIs b rows f (2 ^ o)
       is = block-part b rows a k p (2 ^ o) ends ∙ ap (λ (x : ℕ). blockIs b rows x (2 ^ o)) at

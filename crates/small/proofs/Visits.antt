@@ -12,7 +12,7 @@ use borrow.Author.Tests.{eq-eqb, ne-eqb, lt-ltb, le-ltb, le-leb, lt-leb, eqb-tru
 use Rattle.base.specs.Size.{Huge, rowsOf}
 use Rattle.base.specs.Bits.{blockIs}
 use Rattle.base.proofs.Walks.{pick-case}
-use Rattle.base.proofs.Sizes.{rows-frames, frames-fit, pow-divides}
+use Rattle.base.proofs.Sizes.{first-row, rows-frames, frames-fit, pow-divides}
 use Rattle.base.proofs.Frames.{block-of}
 use Rattle.base.proofs.Parts.{block-part}
 use Rattle.bitfield.specs.declared.Placed.{Placed}
@@ -124,11 +124,8 @@ module _ {h : ℕ} (H : Huge h) (n : ℕ) (rs es : List ℕ) (row o x f : ℕ) w
         huge = rw at (high x h (omega arith));
         ends = ends;
         even = rw (at, ← pow-divides o h (w .block .order), ← mul-assoc) (mul-add-mod-self-right (x * 2 ^ (h - o)) (2 ^ o) p ∙ w .block .aligned);
-        clear = rw (at, whole) (sym (block-part false rs (x * rowsOf h) (rowsOf h) p (2 ^ o) (rw (← rows-frames H) last)) ∙ block-of false (partOf h rs x) p (2 ^ o) (w .clear));
+        clear = rw (at, ← first-row H x) (sym (block-part false rs (x * rowsOf h) (rowsOf h) p (2 ^ o) (rw (← rows-frames H) last)) ∙ block-of false (partOf h rs x) p (2 ^ o) (w .clear));
       }
-    where
-      whole : x * 2 ^ h + p ≡ x * rowsOf h * 64 + p
-      whole = rw (rows-frames H) (omega arith)
 
   -- an answer that is this block shows it to be free
   IsFree : Visit → Type 0

@@ -1,19 +1,17 @@
--- The rows that n frames need: how many they are, and writes within them. Assumes nothing.
-use mathlib.Core.Path.{_≡_, ap}
+-- Writes within the rows that n frames need. Assumes nothing.
+use mathlib.Core.Path.{_≡_}
 use mathlib.Core.Bool.{Bool, true, false}
 use mathlib.Core.List.{List, _++_}
-use Prim.Native.Nat.{ℕ, _+_, _-_, _*_, _^_, _≤_, _<_}
+use Prim.Native.Nat.{ℕ, _-_, _*_, _^_, _≤_}
 use native.Mathlib.Nat.{sub-zero, zero-add, div-mul-le-self}
 use native.Mathlib.Omega.{arith}
 use lib.ListN.{length, take, drop}
-use lib.Pow.{pow-pos}
 use Rattle.base.specs.Bits.{withBits}
-use Rattle.base.specs.Size.{Huge, rowsOf}
+use Rattle.base.specs.Size.{Huge}
 use Rattle.base.proofs.Parts.{with-part}
-use Rattle.base.proofs.Sizes.{rows-frames}
 use Rattle.base.proofs.Writes.{length-with}
-use Rattle.shape.specs.Shape.{hugeOf, ceil, rowsNeeded}
-use Rattle.shape.proofs.Laws.{ceil-covers}
+use Rattle.shape.specs.Shape.{hugeOf, rowsNeeded}
+use Rattle.shape.proofs.Present.{rows-enough}
 use Rattle.starts.specs.Starts.{rowsFrom}
 
 -- a write within the first k rows, put back before the others, is one of all rows; the part's length is its end less its start, as the code has it
@@ -26,23 +24,11 @@ pub begins-low : (h n : ℕ) {x : ℕ} → x ≡ hugeOf h n → x * 2 ^ h ≤ n
 begins-low h n e = rw e (div-mul-le-self n (2 ^ h))
 
 module _ {h : ℕ} (H : Huge h) (n : ℕ) where
-  -- the bits of the needed rows are those of the huge frames that n frames reach into
-  rows-bits : rowsNeeded h n * 64 ≡ ceil n (2 ^ h) * 2 ^ h
-  rows-bits = let e : ceil n (2 ^ h) * 2 ^ h ≡ ceil n (2 ^ h) * (rowsOf h * 64) = ap (λ (s : ℕ). ceil n (2 ^ h) * s) (rows-frames H) in omega arith
-
-  -- so each of the n frames has a bit there
-  pub rows-enough : n ≤ rowsNeeded h n * 64
-  rows-enough = rw rows-bits (ceil-covers n (2 ^ h) (pow-pos h))
-
-  -- and less than a huge frame lies past them
-  pub rows-few : rowsNeeded h n * 64 < n + 2 ^ h
-  rows-few = rw rows-bits (omega (arith, div-mul-le-self (n + (2 ^ h - 1)) (2 ^ h), pow-pos h))
-
   -- the frames below c cleared in the needed rows, and then those from c on set
   pub rows-from : (rs : List ℕ) (c : ℕ) {k : ℕ} {ys zs : List ℕ} → k ≡ rowsNeeded h n → k ≤ length rs → c ≤ n → ys ≡ withBits false (take (k - 0) rs) 0 c
       → zs ≡ withBits true (take (k - 0) (ys ++ drop (k - 0) rs)) c (k * 64) → zs ++ drop (k - 0) (ys ++ drop (k - 0) rs) ≡ rowsFrom h n rs c
   rows-from rs c {k} {ys} {zs} e fits l p q =
-      let all : c ≤ k * 64 = omega (arith, rows-enough) in
+      let all : c ≤ k * 64 = omega (arith, rows-enough H n) in
       let low : ys ++ drop (k - 0) rs ≡ withBits false rs 0 c = first-written false rs k 0 c fits (omega arith) all p in
       let long : k ≤ length (withBits false rs 0 c) = omega (arith, length-with false rs 0 c) in
       rw (low, ← e) (first-written true (withBits false rs 0 c) k c (k * 64) long all (omega arith) (rw low at q))

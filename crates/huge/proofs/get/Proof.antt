@@ -11,7 +11,8 @@ use Rattle.base.specs.Size.{rowsOf}
 use Rattle.base.proofs.Sizes.{huge-high}
 use Rattle.base.proofs.Walks.{FirstAt, first-start, first-found, first-more, first-none}
 use Rattle.huge.specs.Huge.{entriesAre, groupOf, groupAt}
-use Rattle.huge.proofs.Groups.{order-low, huge-by-rows, Tree, tree-low, tree-groups, groups-are, group-starts, group-ends, group-next, group-wraps}
+use Rattle.shape.proofs.Laws.{huge-by-rows}
+use Rattle.huge.proofs.Groups.{order-low, Tree, tree-low, tree-groups, groups-are, group-starts, group-ends, group-next, group-wraps}
 use Rattle.huge.proofs.Cases.{get-found, get-none}
 use Rattle.huge.proofs.get.Statement.{statement}
 use Rattle.huge.proofs.get.Tie as tie

@@ -2,7 +2,8 @@
 use native.Mathlib.Omega.{arith}
 use borrow.Author.Needs.{needs}
 use Rattle.base.proofs.Sizes.{frames-fit}
-use Rattle.starts.proofs.Rows.{rows-enough, rows-few, rows-from}
+use Rattle.shape.proofs.Present.{rows-enough, rows-few}
+use Rattle.starts.proofs.Rows.{rows-from}
 use Rattle.starts.proofs.write_rows.Statement.{statement}
 use Rattle.starts.proofs.write_rows.Tie as tie
 

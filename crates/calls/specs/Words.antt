@@ -1,0 +1,17 @@
+-- The words of the statements about calls, brought together once.
+pub use mathlib.Core.Path.{_≡_}
+pub use mathlib.Core.Bool.{Bool, true, false, not, _&&_, _||_}
+pub use mathlib.Core.Logic.{_⊎_}
+pub use mathlib.Core.List.{List, [], _∷_}
+pub use Prim.Native.Nat.{ℕ, suc, _+_, _-_, _*_, _/_, _%_, _^_, _≤_, _<_}
+pub use lib.Dec.{eqb, leb, ltb}
+pub use lib.ListN.{length, getD, replicate}
+pub use Rattle.base.specs.Walk.{pick, all, count}
+pub use Rattle.base.specs.Code.{Out, out, unless, orElse}
+pub use Rattle.base.specs.Size.{Huge, rowsOf, hugeOrder}
+pub use Rattle.base.specs.Bits.{bitIs}
+pub use Rattle.shape.specs.Shape.{mark, hugeOf, treeOf, isTree, topOrder, ceil, rowsNeeded, entriesNeeded}
+pub use Rattle.shape.specs.Refuse.{Sized}
+pub use Rattle.shape.specs.State.{Mem, mem, sizes, block, start, frame, got, counted, entryOf, clearOf}
+pub use Rattle.audit.specs.Audit.{fault}
+pub use Rattle.recover.specs.Recover.{recovered}

@@ -1,0 +1,1 @@
+// No code: every call of a run under one type.
