@@ -1,0 +1,294 @@
+//! The functions of the archive, each behind a safe one: all that is unsafe in this crate.
+//!
+//! They accept any numbers and any contents of the slices, and write nothing but the slices that they are
+//! lent for writing and the lent numbers (crates/capi has their contracts). What they ask of a caller holds
+//! in every block below: a slice goes as its own pointer and length, a slice that is written is borrowed by
+//! `&mut`, and the lent numbers are the function's own.
+
+use crate::bitfield::Rows;
+use crate::{Got, Lower, ORDERS, Recovered, Stats};
+
+unsafe extern "C" {
+    fn rb_first_zeros_aligned(v: u64, order: usize, place: &mut usize, row: &mut u64) -> u32;
+    fn rb_bitfield_set(rows: *mut u64, rows_len: usize, start: usize, end: usize, value: u32) -> u32;
+    fn rb_bitfield_toggle(rows: *mut u64, rows_len: usize, place: usize, order: usize, expected: u32) -> u32;
+    fn rb_bitfield_is_zero(
+        rows: *const u64,
+        rows_len: usize,
+        place: usize,
+        order: usize,
+        yes: &mut u32,
+    ) -> u32;
+    fn rb_bitfield_first_zeros(
+        rows: *const u64,
+        rows_len: usize,
+        start_row: usize,
+        order: usize,
+        place: &mut usize,
+    ) -> u32;
+    fn rb_bitfield_set_first_zeros(
+        rows: *mut u64,
+        rows_len: usize,
+        start_row: usize,
+        order: usize,
+        place: &mut usize,
+    ) -> u32;
+    fn rb_bitfield_fill(rows: *mut u64, rows_len: usize, value: u32) -> u32;
+    fn rb_bitfield_count_zeros(rows: *const u64, rows_len: usize, zeros: &mut usize) -> u32;
+
+    fn rb_free_all(
+        n: usize,
+        t: usize,
+        rows: *mut u64,
+        rows_len: usize,
+        entries: *mut u16,
+        entries_len: usize,
+    ) -> u32;
+    fn rb_reserve_all(
+        n: usize,
+        t: usize,
+        rows: *mut u64,
+        rows_len: usize,
+        entries: *mut u16,
+        entries_len: usize,
+    ) -> u32;
+    fn rb_get(
+        n: usize,
+        t: usize,
+        rows: *mut u64,
+        rows_len: usize,
+        entries: *mut u16,
+        entries_len: usize,
+        row: usize,
+        order: usize,
+        frame: &mut usize,
+        probes: &mut usize,
+    ) -> u32;
+    fn rb_get_at(
+        n: usize,
+        t: usize,
+        rows: *mut u64,
+        rows_len: usize,
+        entries: *mut u16,
+        entries_len: usize,
+        frame: usize,
+        order: usize,
+        taken: &mut usize,
+        probes: &mut usize,
+    ) -> u32;
+    fn rb_put(
+        n: usize,
+        t: usize,
+        rows: *mut u64,
+        rows_len: usize,
+        entries: *mut u16,
+        entries_len: usize,
+        frame: usize,
+        order: usize,
+    ) -> u32;
+    fn rb_is_free(
+        n: usize,
+        t: usize,
+        rows: *const u64,
+        rows_len: usize,
+        entries: *const u16,
+        entries_len: usize,
+        frame: usize,
+        order: usize,
+        yes: &mut u32,
+    ) -> u32;
+    fn rb_stats(
+        n: usize,
+        t: usize,
+        rows: *const u64,
+        rows_len: usize,
+        entries: *const u16,
+        entries_len: usize,
+        free_frames: &mut usize,
+        free_huge: &mut usize,
+        free_trees: &mut usize,
+    ) -> u32;
+    fn rb_stats_at(
+        n: usize,
+        t: usize,
+        rows: *const u64,
+        rows_len: usize,
+        entries: *const u16,
+        entries_len: usize,
+        frame: usize,
+        order: usize,
+        free_frames: &mut usize,
+        free_huge: &mut usize,
+        free_trees: &mut usize,
+    ) -> u32;
+    fn rb_audit(
+        n: usize,
+        t: usize,
+        rows: *const u64,
+        rows_len: usize,
+        entries: *const u16,
+        entries_len: usize,
+        huge: &mut usize,
+        reason: &mut u32,
+    ) -> u32;
+    fn rb_recover(
+        n: usize,
+        t: usize,
+        rows: *mut u64,
+        rows_len: usize,
+        entries: *mut u16,
+        entries_len: usize,
+        entries_changed: &mut usize,
+        bitfields_changed: &mut usize,
+    ) -> u32;
+    fn rb_room(
+        n: usize,
+        t: usize,
+        rows: *const u64,
+        rows_len: usize,
+        entries: *const u16,
+        entries_len: usize,
+        frame: usize,
+        counts: &mut [usize; ORDERS],
+    ) -> u32;
+    fn rb_tree_run(
+        n: usize,
+        t: usize,
+        rows: *const u64,
+        rows_len: usize,
+        entries: *const u16,
+        entries_len: usize,
+        frame: usize,
+        offset: &mut usize,
+        length: &mut usize,
+    ) -> u32;
+}
+
+pub fn first_zeros_aligned(v: u64, order: usize) -> (u32, usize, u64) {
+    let (mut place, mut row) = (0, 0);
+    let code = unsafe { rb_first_zeros_aligned(v, order, &mut place, &mut row) };
+    (code, place, row)
+}
+
+pub fn set(rows: &mut Rows, start: usize, end: usize, value: bool) -> u32 {
+    unsafe { rb_bitfield_set(rows.as_mut_ptr(), rows.len(), start, end, value.into()) }
+}
+
+pub fn toggle(rows: &mut Rows, place: usize, order: usize, expected: bool) -> u32 {
+    unsafe { rb_bitfield_toggle(rows.as_mut_ptr(), rows.len(), place, order, expected.into()) }
+}
+
+pub fn is_zero(rows: &Rows, place: usize, order: usize) -> (u32, bool) {
+    let mut yes = 0;
+    let code = unsafe { rb_bitfield_is_zero(rows.as_ptr(), rows.len(), place, order, &mut yes) };
+    (code, yes != 0)
+}
+
+pub fn first_zeros(rows: &Rows, start_row: usize, order: usize) -> (u32, usize) {
+    let mut place = 0;
+    let code = unsafe { rb_bitfield_first_zeros(rows.as_ptr(), rows.len(), start_row, order, &mut place) };
+    (code, place)
+}
+
+pub fn set_first_zeros(rows: &mut Rows, start_row: usize, order: usize) -> (u32, usize) {
+    let mut place = 0;
+    let code =
+        unsafe { rb_bitfield_set_first_zeros(rows.as_mut_ptr(), rows.len(), start_row, order, &mut place) };
+    (code, place)
+}
+
+pub fn fill(rows: &mut Rows, value: bool) -> u32 {
+    unsafe { rb_bitfield_fill(rows.as_mut_ptr(), rows.len(), value.into()) }
+}
+
+pub fn count_zeros(rows: &Rows) -> (u32, usize) {
+    let mut zeros = 0;
+    let code = unsafe { rb_bitfield_count_zeros(rows.as_ptr(), rows.len(), &mut zeros) };
+    (code, zeros)
+}
+
+/// A call of the lower level, with N, T and both slices before its own arguments.
+macro_rules! call {
+    ($function:ident, $lower:ident, $pointer:ident $(, $argument:expr)*) => {
+        unsafe {
+            $function(
+                $lower.frames,
+                $lower.tree_huge,
+                $lower.rows.$pointer(),
+                $lower.rows.len(),
+                $lower.entries.$pointer(),
+                $lower.entries.len(),
+                $($argument),*
+            )
+        }
+    };
+}
+
+pub fn free_all(lower: &mut Lower<'_>) -> u32 {
+    call!(rb_free_all, lower, as_mut_ptr)
+}
+
+pub fn reserve_all(lower: &mut Lower<'_>) -> u32 {
+    call!(rb_reserve_all, lower, as_mut_ptr)
+}
+
+pub fn get(lower: &mut Lower<'_>, row: usize, order: usize) -> (u32, Got) {
+    let mut got = Got::default();
+    let code = call!(rb_get, lower, as_mut_ptr, row, order, &mut got.frame, &mut got.probes);
+    (code, got)
+}
+
+pub fn get_at(lower: &mut Lower<'_>, frame: usize, order: usize) -> (u32, Got) {
+    let mut got = Got::default();
+    let code = call!(rb_get_at, lower, as_mut_ptr, frame, order, &mut got.frame, &mut got.probes);
+    (code, got)
+}
+
+pub fn put(lower: &mut Lower<'_>, frame: usize, order: usize) -> u32 {
+    call!(rb_put, lower, as_mut_ptr, frame, order)
+}
+
+pub fn is_free(lower: &Lower<'_>, frame: usize, order: usize) -> (u32, bool) {
+    let mut yes = 0;
+    let code = call!(rb_is_free, lower, as_ptr, frame, order, &mut yes);
+    (code, yes != 0)
+}
+
+pub fn stats(lower: &Lower<'_>) -> (u32, Stats) {
+    let mut stats = Stats::default();
+    let Stats { free_frames, free_huge, free_trees } = &mut stats;
+    let code = call!(rb_stats, lower, as_ptr, free_frames, free_huge, free_trees);
+    (code, stats)
+}
+
+pub fn stats_at(lower: &Lower<'_>, frame: usize, order: usize) -> (u32, Stats) {
+    let mut stats = Stats::default();
+    let Stats { free_frames, free_huge, free_trees } = &mut stats;
+    let code = call!(rb_stats_at, lower, as_ptr, frame, order, free_frames, free_huge, free_trees);
+    (code, stats)
+}
+
+pub fn audit(lower: &Lower<'_>) -> (u32, usize, u32) {
+    let (mut huge, mut reason) = (0, 0);
+    let code = call!(rb_audit, lower, as_ptr, &mut huge, &mut reason);
+    (code, huge, reason)
+}
+
+pub fn recover(lower: &mut Lower<'_>) -> (u32, Recovered) {
+    let mut recovered = Recovered::default();
+    let Recovered { entries, bitfields } = &mut recovered;
+    let code = call!(rb_recover, lower, as_mut_ptr, entries, bitfields);
+    (code, recovered)
+}
+
+pub fn room(lower: &Lower<'_>, frame: usize) -> (u32, [usize; ORDERS]) {
+    let mut counts = [0; ORDERS];
+    let code = call!(rb_room, lower, as_ptr, frame, &mut counts);
+    (code, counts)
+}
+
+pub fn tree_run(lower: &Lower<'_>, frame: usize) -> (u32, usize, usize) {
+    let (mut offset, mut length) = (0, 0);
+    let code = call!(rb_tree_run, lower, as_ptr, frame, &mut offset, &mut length);
+    (code, offset, length)
+}

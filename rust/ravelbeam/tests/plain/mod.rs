@@ -1,0 +1,40 @@
+//! A plain model of what is held: a flag for each frame.
+
+use ravelbeam::Lower;
+
+pub struct Held {
+    flags: Vec<bool>,
+    pub count: usize,
+}
+
+impl Held {
+    /// The frames that a state has as held, asked one by one.
+    pub fn of(lower: &Lower<'_>) -> Held {
+        let flags: Vec<bool> = (0..lower.frames()).map(|frame| !lower.is_free(frame, 0).unwrap()).collect();
+        let count = flags.iter().filter(|held| **held).count();
+        Held { flags, count }
+    }
+
+    /// Holds a block that was handed out.
+    pub fn take(&mut self, frame: usize, order: usize) {
+        assert_eq!(frame % (1 << order), 0, "frame {frame} is not aligned at order {order}");
+        let block = &mut self.flags[frame..][..1 << order];
+        assert!(!block.contains(&true), "frame {frame}, order {order}: some of it is handed out twice");
+        block.fill(true);
+        self.count += 1 << order;
+    }
+
+    /// Frees a block that was given back.
+    pub fn give(&mut self, frame: usize, order: usize) {
+        let block = &mut self.flags[frame..][..1 << order];
+        assert!(!block.contains(&false), "frame {frame}, order {order}: some of it was not held");
+        block.fill(false);
+        self.count -= 1 << order;
+    }
+
+    /// Whether an aligned block is free among `frames` frames from `start` on. The start is aligned.
+    pub fn has_room(&self, start: usize, frames: usize, order: usize) -> bool {
+        let end = self.flags.len().min(start + frames);
+        self.flags[start..end].chunks_exact(1 << order).any(|block| !block.contains(&true))
+    }
+}
