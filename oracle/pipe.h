@@ -1,16 +1,11 @@
-/* What both workers share: the words they speak in, and whole transfers over the pipes to the driver. The kit's
- * compiler comes without the C library's headers, so its few functions are declared here. */
+/* What both workers share: whole transfers over the pipes to the driver. The kit's compiler comes without the C
+ * library's headers, so its few functions are declared here. */
 
-typedef __UINT64_TYPE__ word;
-typedef __UINT32_TYPE__ number;
-typedef __SIZE_TYPE__ size;
+#include "words.h"
 
 long read(int file, void *to, size length);
 long write(int file, const void *from, size length);
 void *memcpy(void *to, const void *from, size length);
-
-/* A lent number starts as this, so that one which is not written is seen. */
-#define UNWRITTEN 0x5a5a5a5a5a5a5a5aull
 
 static int transfer(int writing, void *at, size length)
 {

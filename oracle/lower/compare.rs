@@ -1,7 +1,9 @@
 //! Compares our lower level's calls with the Rust's and with a model of document 01: answers, and every row
-//! and entry after each call. Run by oracle/compare, as: compare SEED RUNS EDGES LIBRARIES -- WORKER..
+//! and entry after each call. Run by oracle/compare, as:
+//! compare SEED RUNS EDGES BORROWS LIBRARIES -- WORKER..
 
 mod inputs;
+mod ledger;
 #[path = "../library.rs"]
 mod library;
 mod model;
@@ -23,6 +25,7 @@ use std::mem::take;
 use std::process::exit;
 
 use inputs::Run;
+use ledger::Ledger;
 use ours::Worker;
 use progress::Progress;
 use random::Random;
@@ -179,14 +182,37 @@ fn mend(it: &mut Comparison, n: u64, t: u64, reasons: &[u64], random: &mut Rando
     demand(it, audit, 0, left);
 }
 
+/// A run that gives back exactly what it took, and nothing that was held before: then every row and entry,
+/// also those beyond the needed ones, is as before. Hands back how many frames it took. It follows the model,
+/// to which each answer and change of ours is held.
+fn borrow(it: &mut Comparison, n: u64, t: u64, random: &mut Random) -> u64 {
+    let (room, mut run) = Run::on_consistent(n, t, random);
+    let mut ledger = Ledger::new(inputs::lending(n, t, 0, 0), &room);
+    it.state(room);
+    for _ in 0..RUN {
+        let call = run.next(random);
+        if ledger.allows(&call, &it.now) {
+            let outcome = it.call(call, true);
+            run.saw(&call, &outcome);
+            ledger.saw(&call, &outcome);
+        }
+        if random.below(4) > 0 {
+            inspect(it, &run, random);
+        }
+    }
+    ledger.give_back(random, |call| it.call(call, true));
+    assert!(it.now == ledger.start, "N {n}, T {t}: a run that gave all back has left a trace");
+    ledger.borrowed
+}
+
 fn main() {
     let words: Vec<String> = std::env::args().collect();
     let number = |i: usize| words[i].parse::<u64>().expect("a number");
-    let (mut random, runs, edges) = (Random(number(1)), number(2), number(3));
+    let (mut random, runs, edges, borrows) = (Random(number(1)), number(2), number(3), number(4));
     let split = words.iter().position(|word| word == "--").expect("--");
     let mut it = Comparison {
         ours: Worker::start(&words[split + 1..]),
-        rust: words[4..split].iter().map(|path| Rust::load(path)).collect(),
+        rust: words[5..split].iter().map(|path| Rust::load(path)).collect(),
         now: Room::new((0, 0), &mut random),
         gathered: Vec::new(),
         sent: Vec::new(),
@@ -196,7 +222,8 @@ fn main() {
     let mut progress = Progress::new("lower");
 
     // Each named number of frames from both starts; the largest, whose states are slow, from one.
-    for t in TREES {
+    for (done, t) in TREES.into_iter().enumerate() {
+        progress.say(done as u64, TREES.len() as u64, "tree sizes");
         let named =
             states::named_frames(t).into_iter().flat_map(|n| [(n, What::FreeAll), (n, What::ReserveAll)]);
         let largest = [(MOST, What::FreeAll), (MOST - 1, What::ReserveAll)];
@@ -233,6 +260,14 @@ fn main() {
         }
         progress.say(done, edges, "states with every edge");
     }
+    let mut borrowed = 0;
+    for done in 0..borrows {
+        let t = TREES[done as usize % TREES.len()];
+        let n = states::frames(t, &mut random);
+        borrowed += borrow(&mut it, n, t, &mut random);
+        progress.say(done, borrows, "runs that give all back");
+    }
+    assert!(borrowed > 0, "nothing was borrowed");
     it.turn();
     it.turn();
     it.ours.end();
@@ -241,7 +276,8 @@ fn main() {
     let [calls, staff, both, refusals] = it.tally.figures();
     println!(
         "lower: {} states, {calls} calls ({staff} of stats, stats_at, audit, recover, room and tree_run), \
-         {both} of them answered by the Rust too, {refusals} refusals, 0 differences",
+         {both} of them answered by the Rust too, {refusals} refusals; {borrows} runs borrowed {borrowed} frames, \
+         returned all of them and left no trace; 0 differences",
         it.states
     );
 }

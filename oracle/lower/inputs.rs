@@ -85,10 +85,15 @@ impl Run {
         }
     }
 
+    /// A run on a consistent state.
+    pub fn on_consistent(n: u64, t: u64, random: &mut Random) -> (Room, Run) {
+        let run = Run::new(n, t, random);
+        (consistent(n, t, random), run)
+    }
+
     /// A run on a state of its own, consistent or, every other time, damaged.
     pub fn on_state(n: u64, t: u64, random: &mut Random) -> (Room, Run) {
-        let mut run = Run::new(n, t, random);
-        let mut room = consistent(n, t, random);
+        let (mut room, mut run) = Run::on_consistent(n, t, random);
         if random.below(2) == 0 {
             run.consistent = false;
             let last = n.div_ceil(512) - 1;

@@ -7,7 +7,7 @@ use crate::model::needed;
 use crate::room::{Change, Room};
 use crate::rust::Rust;
 
-/// What a call is; the numbers are worker.c's.
+/// What a call is; the numbers are calls.h's.
 #[derive(Clone, Copy, PartialEq, Debug)]
 pub enum What {
     FreeAll = 1,

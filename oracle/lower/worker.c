@@ -7,48 +7,12 @@
  * the same form. The room stays from batch to batch. */
 
 #include "../pipe.h"
+#include "calls.h"
 
-typedef __UINT16_TYPE__ entry;
+/* The kind of an item that is no call. */
+enum { STATE };
 
-number rb_free_all(size n, size t, word *rows, size rows_len, entry *entries, size entries_len);
-number rb_reserve_all(size n, size t, word *rows, size rows_len, entry *entries, size entries_len);
-number rb_get(size n, size t, word *rows, size rows_len, entry *entries, size entries_len, size row, size order,
-              size *frame, size *probes);
-number rb_get_at(size n, size t, word *rows, size rows_len, entry *entries, size entries_len, size frame, size order,
-                 size *got, size *probes);
-number rb_put(size n, size t, word *rows, size rows_len, entry *entries, size entries_len, size frame, size order);
-number rb_is_free(size n, size t, const word *rows, size rows_len, const entry *entries, size entries_len, size frame,
-                  size order, number *yes);
-number rb_stats(size n, size t, const word *rows, size rows_len, const entry *entries, size entries_len,
-                size *free_frames, size *free_huge, size *free_trees);
-number rb_stats_at(size n, size t, const word *rows, size rows_len, const entry *entries, size entries_len, size frame,
-                   size order, size *free_frames, size *free_huge, size *free_trees);
-number rb_audit(size n, size t, const word *rows, size rows_len, const entry *entries, size entries_len, size *huge,
-                number *reason);
-number rb_recover(size n, size t, word *rows, size rows_len, entry *entries, size entries_len, size *entries_changed,
-                  size *bitfields_changed);
-number rb_room(size n, size t, const word *rows, size rows_len, const entry *entries, size entries_len, size frame,
-               size *counts);
-number rb_tree_run(size n, size t, const word *rows, size rows_len, const entry *entries, size entries_len, size frame,
-                   size *offset, size *length);
-
-enum {
-    STATE,
-    FREE_ALL,
-    RESERVE_ALL,
-    GET,
-    GET_AT,
-    PUT,
-    IS_FREE,
-    STATS,
-    STATS_AT,
-    AUDIT,
-    RECOVER,
-    TREE_ROOM,
-    TREE_RUN
-};
-
-enum { BATCH = 1 << 20, ROOM = 1 << 15, NUMBERS = 19 };
+enum { BATCH = 1 << 20, ROOM = 1 << 15 };
 static word request[BATCH], reply[1 + BATCH];
 
 /* The rows, then the entries, and both as they were before the call. One row and one entry come before what
@@ -56,54 +20,19 @@ static word request[BATCH], reply[1 + BATCH];
 static word room[ROOM], before[ROOM];
 static word words, row_words;
 
-/* One call on the room, whose lent numbers go to lent: the code, and how many numbers it was lent. */
-static number call(const word *item, size *lent, word *numbers)
+/* One call on the room, written to out: its code, how many numbers it was lent, and these. Hands back where that
+ * ends, or 0 where the call wrote beside its numbers. */
+static word *call(const word *item, word *out)
 {
-    word *rows = room + 1, n = item[2], t = item[3], rows_len = item[4], entries_len = item[5];
-    entry *entries = (entry *)(room + row_words) + 1;
-    word at = item[6], order = item[7];
-    number code, small = (number)UNWRITTEN;
+    struct call it = { item[0], item[2], item[3], item[4], item[5], item[6], item[7], room + 1,
+                       (entry *)(room + row_words) + 1 };
+    struct lent lent;
 
-    for (word i = 0; i < NUMBERS; i++)
-        lent[i] = UNWRITTEN;
-    *numbers = 2;
-    switch (item[0]) {
-    case FREE_ALL:
-        *numbers = 0;
-        return rb_free_all(n, t, rows, rows_len, entries, entries_len);
-    case RESERVE_ALL:
-        *numbers = 0;
-        return rb_reserve_all(n, t, rows, rows_len, entries, entries_len);
-    case GET:
-        return rb_get(n, t, rows, rows_len, entries, entries_len, at, order, &lent[0], &lent[1]);
-    case GET_AT:
-        return rb_get_at(n, t, rows, rows_len, entries, entries_len, at, order, &lent[0], &lent[1]);
-    case PUT:
-        *numbers = 0;
-        return rb_put(n, t, rows, rows_len, entries, entries_len, at, order);
-    case IS_FREE:
-        *numbers = 1;
-        code = rb_is_free(n, t, rows, rows_len, entries, entries_len, at, order, &small);
-        lent[0] = small;
-        return code;
-    case STATS:
-        *numbers = 3;
-        return rb_stats(n, t, rows, rows_len, entries, entries_len, &lent[0], &lent[1], &lent[2]);
-    case STATS_AT:
-        *numbers = 3;
-        return rb_stats_at(n, t, rows, rows_len, entries, entries_len, at, order, &lent[0], &lent[1], &lent[2]);
-    case AUDIT:
-        code = rb_audit(n, t, rows, rows_len, entries, entries_len, &lent[0], &small);
-        lent[1] = small;
-        return code;
-    case RECOVER:
-        return rb_recover(n, t, rows, rows_len, entries, entries_len, &lent[0], &lent[1]);
-    case TREE_ROOM:
-        *numbers = NUMBERS;
-        return rb_room(n, t, rows, rows_len, entries, entries_len, at, lent);
-    default:
-        return rb_tree_run(n, t, rows, rows_len, entries, entries_len, at, &lent[0], &lent[1]);
-    }
+    out[0] = make(&it, &lent, &out[1]);
+    if (!kept(&lent, out[1]))
+        return 0;
+    memcpy(out + 2, lent.numbers, out[1] * sizeof *out);
+    return out + 2 + out[1];
 }
 
 /* The places and new words of all that a call changed go to out, which has room for them; then the room is
@@ -145,8 +74,9 @@ int main(void)
             } else {
                 if (3 + NUMBERS + 2 * words > (word)(reply + 1 + BATCH - out))
                     return 1;
-                out[0] = call(in, out + 2, &out[1]);
-                out += 2 + out[1];
+                out = call(in, out);
+                if (!out)
+                    return 1;
                 out[0] = changes(in[1], out + 1);
                 in += 8, out += 1 + 2 * out[0];
             }

@@ -14,6 +14,8 @@ mod line;
 mod lines;
 #[path = "../lower/model.rs"]
 mod model;
+#[path = "../progress.rs"]
+mod progress;
 #[path = "../random.rs"]
 mod random;
 #[allow(dead_code)]
@@ -37,6 +39,7 @@ use std::process::exit;
 use expected::{Expected, Trace, split};
 use feed::feed;
 use lines::Lines;
+use progress::Progress;
 use random::Random;
 use rust::Rust;
 use tally::Tally;
@@ -142,6 +145,7 @@ fn main() {
     let rust: Vec<Rust> = words[3..split].iter().map(|path| Rust::load(path)).collect();
     let program = &words[split + 1..];
     let mut tally = Tally::default();
+    let mut progress = Progress::new("trace");
 
     let mut document = Input::new(&rust, &mut random);
     for (line, answer) in DOCUMENT {
@@ -157,6 +161,7 @@ fn main() {
         let mut input = Input::new(&rust, &mut random);
         input.lines(count / 20, LASTS[run % LASTS.len()], &mut tally, &mut random);
         most = most.max(input.compare(program, PARTS[run % PARTS.len()], &mut random));
+        progress.say(run as u64, 20, "runs");
     }
     for (part, long, empty) in [(1, 10 * count, 10 * count), (65536, 1 << 24, 20 * count)] {
         let mut input = Input::new(&rust, &mut random);

@@ -1,0 +1,88 @@
+/* Calls that are wrong in one way each, for `oracle/fuzz/run check`: the linker's --wrap puts them before those of
+ * the archive, and WRONG says which of them errs. */
+
+#include "../words.h"
+
+enum {
+    PUT_FORGETS = 1,
+    GET_NEXT,
+    MARK_IS_FREE,
+    RECOVER_ADDS,
+    REFUSAL_WRITES,
+    LAST_OF_A_GROUP,
+    ROOM_AT_9,
+    OTHER_TREE
+};
+
+number __real_rb_get(size n, size t, word *rows, size rows_len, entry *entries, size entries_len, size row, size order,
+                     size *frame, size *probes);
+number __real_rb_put(size n, size t, word *rows, size rows_len, entry *entries, size entries_len, size frame,
+                     size order);
+number __real_rb_is_free(size n, size t, const word *rows, size rows_len, const entry *entries, size entries_len,
+                         size frame, size order, number *yes);
+number __real_rb_recover(size n, size t, word *rows, size rows_len, entry *entries, size entries_len,
+                         size *entries_changed, size *bitfields_changed);
+number __real_rb_room(size n, size t, const word *rows, size rows_len, const entry *entries, size entries_len,
+                      size frame, size *counts);
+
+/* The frame after the one that was taken; it writes though its order is too high; or where the tree has no block it
+ * goes on to the next. */
+number __wrap_rb_get(size n, size t, word *rows, size rows_len, entry *entries, size entries_len, size row, size order,
+                     size *frame, size *probes)
+{
+    number code = __real_rb_get(n, t, rows, rows_len, entries, entries_len, row, order, frame, probes);
+
+    if (WRONG == GET_NEXT && code == 0)
+        ++*frame;
+    if (WRONG == REFUSAL_WRITES && code == 4)
+        entries[0] ^= 1;
+    if (WRONG == OTHER_TREE && code == 7 && 64 * (row + 8 * t) < n)
+        return __real_rb_get(n, t, rows, rows_len, entries, entries_len, row + 8 * t, order, frame, probes);
+    return code;
+}
+
+/* The count is not raised; or in a group of eight huge frames and more the last stays held. */
+number __wrap_rb_put(size n, size t, word *rows, size rows_len, entry *entries, size entries_len, size frame,
+                     size order)
+{
+    number code = __real_rb_put(n, t, rows, rows_len, entries, entries_len, frame, order);
+
+    if (WRONG == PUT_FORGETS && code == 0 && order < 9)
+        entries[frame / 512] -= (entry)(1 << order);
+    if (WRONG == LAST_OF_A_GROUP && code == 0 && order > 11)
+        entries[(frame >> 9) + (1ull << (order - 9)) - 1] = 65535;
+    return code;
+}
+
+/* "Counting a mark as 65535 free." */
+number __wrap_rb_is_free(size n, size t, const word *rows, size rows_len, const entry *entries, size entries_len,
+                         size frame, size order, number *yes)
+{
+    number code = __real_rb_is_free(n, t, rows, rows_len, entries, entries_len, frame, order, yes);
+
+    if (WRONG == MARK_IS_FREE && code == 0 && order < 9 && entries[frame / 512] == 65535)
+        *yes = 1;
+    return code;
+}
+
+/* One bitfield more than differs, where any does. */
+number __wrap_rb_recover(size n, size t, word *rows, size rows_len, entry *entries, size entries_len,
+                         size *entries_changed, size *bitfields_changed)
+{
+    number code = __real_rb_recover(n, t, rows, rows_len, entries, entries_len, entries_changed, bitfields_changed);
+
+    if (WRONG == RECOVER_ADDS && *bitfields_changed > 0)
+        ++*bitfields_changed;
+    return code;
+}
+
+/* No free huge frame in a tree of 64 huge frames and more. */
+number __wrap_rb_room(size n, size t, const word *rows, size rows_len, const entry *entries, size entries_len,
+                      size frame, size *counts)
+{
+    number code = __real_rb_room(n, t, rows, rows_len, entries, entries_len, frame, counts);
+
+    if (WRONG == ROOM_AT_9 && t > 63)
+        counts[9] = 0;
+    return code;
+}

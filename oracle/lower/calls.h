@@ -1,0 +1,108 @@
+/* The lower level's calls as libcapi.a has them, a slice as its pointer and its length; and all of them as one. */
+
+#include "../words.h"
+
+number rb_free_all(size n, size t, word *rows, size rows_len, entry *entries, size entries_len);
+number rb_reserve_all(size n, size t, word *rows, size rows_len, entry *entries, size entries_len);
+number rb_get(size n, size t, word *rows, size rows_len, entry *entries, size entries_len, size row, size order,
+              size *frame, size *probes);
+number rb_get_at(size n, size t, word *rows, size rows_len, entry *entries, size entries_len, size frame, size order,
+                 size *got, size *probes);
+number rb_put(size n, size t, word *rows, size rows_len, entry *entries, size entries_len, size frame, size order);
+number rb_is_free(size n, size t, const word *rows, size rows_len, const entry *entries, size entries_len, size frame,
+                  size order, number *yes);
+number rb_stats(size n, size t, const word *rows, size rows_len, const entry *entries, size entries_len,
+                size *free_frames, size *free_huge, size *free_trees);
+number rb_stats_at(size n, size t, const word *rows, size rows_len, const entry *entries, size entries_len, size frame,
+                   size order, size *free_frames, size *free_huge, size *free_trees);
+number rb_audit(size n, size t, const word *rows, size rows_len, const entry *entries, size entries_len, size *huge,
+                number *reason);
+number rb_recover(size n, size t, word *rows, size rows_len, entry *entries, size entries_len, size *entries_changed,
+                  size *bitfields_changed);
+number rb_room(size n, size t, const word *rows, size rows_len, const entry *entries, size entries_len, size frame,
+               size *counts);
+number rb_tree_run(size n, size t, const word *rows, size rows_len, const entry *entries, size entries_len, size frame,
+                   size *offset, size *length);
+
+enum { FREE_ALL = 1, RESERVE_ALL, GET, GET_AT, PUT, IS_FREE, STATS, STATS_AT, AUDIT, RECOVER, TREE_ROOM, TREE_RUN };
+/* The most numbers that a call is lent. */
+enum { NUMBERS = 19 };
+
+/* A call, and the rows and entries it is lent. What it does not take is 0; at is the start row of a get, else the
+ * frame. */
+struct call {
+    word what, n, t, rows_len, entries_len, at, order;
+    word *rows;
+    entry *entries;
+};
+
+/* The numbers that a call is lent, between others that it is not. */
+struct lent {
+    size before, numbers[NUMBERS], after;
+    number small_before, small, small_after;
+};
+
+/* Makes the call: its code, and in count how many numbers it was lent. */
+static number make(const struct call *it, struct lent *lent, word *count)
+{
+    word n = it->n, t = it->t, rows_len = it->rows_len, entries_len = it->entries_len, at = it->at, order = it->order;
+    word *rows = it->rows;
+    entry *entries = it->entries;
+    size *numbers = lent->numbers;
+    number code;
+
+    lent->before = lent->after = UNWRITTEN;
+    lent->small_before = lent->small = lent->small_after = (number)UNWRITTEN;
+    for (word i = 0; i < NUMBERS; i++)
+        numbers[i] = UNWRITTEN;
+    *count = 2;
+    switch (it->what) {
+    case FREE_ALL:
+        *count = 0;
+        return rb_free_all(n, t, rows, rows_len, entries, entries_len);
+    case RESERVE_ALL:
+        *count = 0;
+        return rb_reserve_all(n, t, rows, rows_len, entries, entries_len);
+    case GET:
+        return rb_get(n, t, rows, rows_len, entries, entries_len, at, order, &numbers[0], &numbers[1]);
+    case GET_AT:
+        return rb_get_at(n, t, rows, rows_len, entries, entries_len, at, order, &numbers[0], &numbers[1]);
+    case PUT:
+        *count = 0;
+        return rb_put(n, t, rows, rows_len, entries, entries_len, at, order);
+    case IS_FREE:
+        *count = 1;
+        code = rb_is_free(n, t, rows, rows_len, entries, entries_len, at, order, &lent->small);
+        numbers[0] = lent->small;
+        return code;
+    case STATS:
+        *count = 3;
+        return rb_stats(n, t, rows, rows_len, entries, entries_len, &numbers[0], &numbers[1], &numbers[2]);
+    case STATS_AT:
+        *count = 3;
+        return rb_stats_at(n, t, rows, rows_len, entries, entries_len, at, order, &numbers[0], &numbers[1],
+                           &numbers[2]);
+    case AUDIT:
+        code = rb_audit(n, t, rows, rows_len, entries, entries_len, &numbers[0], &lent->small);
+        numbers[1] = lent->small;
+        return code;
+    case RECOVER:
+        return rb_recover(n, t, rows, rows_len, entries, entries_len, &numbers[0], &numbers[1]);
+    case TREE_ROOM:
+        *count = NUMBERS;
+        return rb_room(n, t, rows, rows_len, entries, entries_len, at, numbers);
+    default:
+        return rb_tree_run(n, t, rows, rows_len, entries, entries_len, at, &numbers[0], &numbers[1]);
+    }
+}
+
+/* Whether all that a call of so many numbers was not lent is unwritten. */
+static int kept(const struct lent *lent, word count)
+{
+    int yes = lent->before == UNWRITTEN && lent->after == UNWRITTEN &&
+              lent->small_before == (number)UNWRITTEN && lent->small_after == (number)UNWRITTEN;
+
+    for (word i = count; i < NUMBERS; i++)
+        yes &= lent->numbers[i] == UNWRITTEN;
+    return yes;
+}
