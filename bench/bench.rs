@@ -1,19 +1,16 @@
-//! Times our bitfield calls against the Rust's: in one process, each side behind a C call through a
-//! pointer, on the same input in the same memory. Run by bench/run, as: bench LIBRARY
+//! Times our bitfield calls against the Rust's: in one process, each side behind a C call through a pointer,
+//! on the same input in the same memory; turns.rs says how. Run by bench/run, as: bench LIBRARY
 //!
-//! A pass makes some thousands of calls. The two sides take turns, pass by pass, and each side's figure is
-//! its least pass: what else the machine does can only add to it. All rows are restored before each pass,
-//! outside of its time.
+//! A pass makes some thousands of calls. All rows are restored before each, outside of its time.
 
 #[path = "../oracle/library.rs"]
 mod library;
-// Not all of its calls are timed.
-#[allow(dead_code)]
 #[path = "../oracle/rust.rs"]
 mod rust;
+mod turns;
 
+use std::cell::RefCell;
 use std::hint::black_box;
-use std::time::Instant;
 
 use rust::Rust;
 
@@ -23,10 +20,10 @@ type Rows = [u64; 8];
 const STATES: usize = 256;
 /// How often a pass goes through all states: a search has that many blocks to find in each.
 const TURNS: usize = 4;
-const PASSES: usize = 2000;
 
 unsafe extern "C" {
     fn rb_first_zeros_aligned(v: u64, order: usize, place: &mut usize, row: &mut u64) -> u32;
+    fn rb_bitfield_set(rows: *mut u64, rows_len: usize, start: usize, end: usize, value: u32) -> u32;
     fn rb_bitfield_toggle(rows: *mut u64, rows_len: usize, place: usize, order: usize, expected: u32) -> u32;
     fn rb_bitfield_is_zero(
         rows: *const u64,
@@ -35,6 +32,13 @@ unsafe extern "C" {
         order: usize,
         yes: &mut u32,
     ) -> u32;
+    fn rb_bitfield_first_zeros(
+        rows: *const u64,
+        rows_len: usize,
+        start_row: usize,
+        order: usize,
+        place: &mut usize,
+    ) -> u32;
     fn rb_bitfield_set_first_zeros(
         rows: *mut u64,
         rows_len: usize,
@@ -42,23 +46,30 @@ unsafe extern "C" {
         order: usize,
         place: &mut usize,
     ) -> u32;
+    fn rb_bitfield_fill(rows: *mut u64, rows_len: usize, value: u32) -> u32;
     fn rb_bitfield_count_zeros(rows: *const u64, rows_len: usize, zeros: &mut usize) -> u32;
 }
 
 /// Our calls as pointers, as the Rust's are.
 struct Ours {
     first_zeros_aligned: unsafe extern "C" fn(u64, usize, &mut usize, &mut u64) -> u32,
+    set: unsafe extern "C" fn(*mut u64, usize, usize, usize, u32) -> u32,
     toggle: unsafe extern "C" fn(*mut u64, usize, usize, usize, u32) -> u32,
     is_zero: unsafe extern "C" fn(*const u64, usize, usize, usize, &mut u32) -> u32,
+    first_zeros: unsafe extern "C" fn(*const u64, usize, usize, usize, &mut usize) -> u32,
     set_first_zeros: unsafe extern "C" fn(*mut u64, usize, usize, usize, &mut usize) -> u32,
+    fill: unsafe extern "C" fn(*mut u64, usize, u32) -> u32,
     count_zeros: unsafe extern "C" fn(*const u64, usize, &mut usize) -> u32,
 }
 
 static OURS: Ours = Ours {
     first_zeros_aligned: rb_first_zeros_aligned,
+    set: rb_bitfield_set,
     toggle: rb_bitfield_toggle,
     is_zero: rb_bitfield_is_zero,
+    first_zeros: rb_bitfield_first_zeros,
     set_first_zeros: rb_bitfield_set_first_zeros,
+    fill: rb_bitfield_fill,
     count_zeros: rb_bitfield_count_zeros,
 };
 
@@ -92,36 +103,37 @@ impl Random {
     }
 }
 
-/// The nanoseconds of one pass.
-fn pass(states: &mut [Rows], call: &impl Fn(usize, &mut Rows)) -> u128 {
-    let start = Instant::now();
-    for _ in 0..TURNS {
-        for (i, rows) in states.iter_mut().enumerate() {
-            call(i, rows);
+/// A pass over a copy of the states, each by its number.
+fn pass(memory: &mut [Rows], states: &[Rows], call: impl Fn(usize, &mut Rows)) -> u128 {
+    memory.copy_from_slice(states);
+    turns::pass(|| {
+        for _ in 0..TURNS {
+            for (i, rows) in memory.iter_mut().enumerate() {
+                call(i, rows);
+            }
         }
-    }
-    start.elapsed().as_nanos()
+    })
 }
 
-/// A line of the table. Each side makes `calls` calls on a state, whose number it is told.
+/// A line of the table. Each side makes `calls` calls on a state.
 fn line(
-    [name, order, kind]: [&str; 3],
+    [call, order, kind]: [&str; 3],
     states: &[Rows],
     calls: usize,
     ours: impl Fn(usize, &mut Rows),
-    rust: impl Fn(usize, &mut Rows),
+    rust: Option<impl Fn(usize, &mut Rows)>,
 ) {
-    let mut memory = states.to_vec();
-    let mut least = [u128::MAX; 2];
-    for _ in 0..PASSES {
-        memory.copy_from_slice(states);
-        least[0] = least[0].min(pass(&mut memory, &ours));
-        memory.copy_from_slice(states);
-        least[1] = least[1].min(pass(&mut memory, &rust));
-    }
-    let [ours, rust] = least.map(|time| time as f64 / (TURNS * STATES * calls) as f64);
-    println!("| {name} | {order} | {kind} | {ours:.2} | {rust:.2} | {:.2} |", ours / rust);
+    let memory = &RefCell::new(states.to_vec());
+    turns::line(
+        [call, "", order, kind, ""],
+        TURNS * STATES * calls,
+        || pass(&mut memory.borrow_mut(), states, &ours),
+        rust.map(|rust| move || pass(&mut memory.borrow_mut(), states, &rust)),
+    );
 }
+
+/// Stands for the Rust's call where it has none.
+const NONE: Option<fn(usize, &mut Rows)> = None;
 
 fn main() {
     let library = std::env::args().nth(1).expect("the Rust's library");
@@ -131,8 +143,6 @@ fn main() {
     let half = random.states(|random| [(); 8].map(|()| random.word()));
     let crowded = random.states(|random| [(); 8].map(|()| random.crowded()));
 
-    println!("| call | order | rows | ours, ns | Rust, ns | ratio |");
-    println!("|---|---|---|---|---|---|");
     for order in 0..7 {
         let blocks = random.states(|random| [(); 8].map(|()| random.blocks(order)));
         for (kind, states) in
@@ -145,20 +155,21 @@ fn main() {
                 |_, rows| unsafe {
                     let (mut place, mut row) = (0, 0);
                     for v in rows {
-                        black_box((ours.first_zeros_aligned)(*v, order, &mut place, &mut row));
+                        (ours.first_zeros_aligned)(*v, order, &mut place, &mut row);
                     }
                 },
-                |_, rows| unsafe {
+                Some(|_, rows: &mut Rows| unsafe {
                     let (mut place, mut row) = (0, 0);
                     for v in rows {
-                        black_box((rust.first_zeros_aligned)(*v, order, &mut place, &mut row));
+                        (rust.first_zeros_aligned)(*v, order, &mut place, &mut row);
                     }
-                },
+                }),
             );
         }
     }
 
-    // Every state has a start row of its own; in the last kind, all rows but the one before it are full.
+    // Every state has a start row of its own; in the last kind of order 0, all rows but the one before it are
+    // full.
     let mut number = 0;
     let last = random.states(|random| {
         number += 1;
@@ -166,19 +177,37 @@ fn main() {
         rows[(number + 6) % 8] = random.word();
         rows
     });
-    for (kind, states) in [("half full", &half), ("crowded", &crowded), ("full but the last row", &last)] {
+    let [bytes, words] = [3, 6].map(|order| random.states(|random| [(); 8].map(|()| random.blocks(order))));
+    let clear = vec![[0; 8]; STATES];
+    for (order, kind, states) in [
+        (0, "half full", &half),
+        (0, "crowded", &crowded),
+        (0, "full but the last row", &last),
+        (3, "half of the blocks clear", &bytes),
+        (6, "half of the blocks clear", &words),
+        (7, "clear", &clear),
+    ] {
         line(
-            ["set_first_zeros", "0", kind],
+            ["set_first_zeros", &order.to_string(), kind],
             states,
             1,
             |i, rows| unsafe {
-                black_box((ours.set_first_zeros)(rows.as_mut_ptr(), 8, i % 8, 0, &mut 0));
+                (ours.set_first_zeros)(rows.as_mut_ptr(), 8, i % 8, order, &mut 0);
             },
-            |i, rows| unsafe {
-                black_box((rust.set_first_zeros)(rows.as_mut_ptr(), i % 8, 0, &mut 0));
-            },
+            Some(|i, rows: &mut Rows| unsafe {
+                (rust.set_first_zeros)(rows.as_mut_ptr(), i % 8, order, &mut 0);
+            }),
         );
     }
+    line(
+        ["first_zeros", "0", "half full"],
+        &half,
+        1,
+        |i, rows| unsafe {
+            (ours.first_zeros)(rows.as_ptr(), 8, i % 8, 0, &mut 0);
+        },
+        NONE,
+    );
 
     for order in [0, 3, 6, 7, 9] {
         let place = |i: usize| (i << order) % 512;
@@ -186,38 +215,68 @@ fn main() {
         // A block is turned and turned back.
         line(
             ["toggle", &order_name, "clear"],
-            &[[0; 8]; STATES],
+            &clear,
             2,
             |i, rows| unsafe {
-                black_box((ours.toggle)(rows.as_mut_ptr(), 8, place(i), order, 0));
-                black_box((ours.toggle)(rows.as_mut_ptr(), 8, place(i), order, 1));
+                (ours.toggle)(rows.as_mut_ptr(), 8, place(i), order, 0);
+                (ours.toggle)(rows.as_mut_ptr(), 8, place(i), order, 1);
             },
-            |i, rows| unsafe {
-                black_box((rust.toggle)(rows.as_mut_ptr(), place(i), order, 0));
-                black_box((rust.toggle)(rows.as_mut_ptr(), place(i), order, 1));
-            },
+            Some(|i, rows: &mut Rows| unsafe {
+                (rust.toggle)(rows.as_mut_ptr(), place(i), order, 0);
+                (rust.toggle)(rows.as_mut_ptr(), place(i), order, 1);
+            }),
         );
         line(
             ["is_zero", &order_name, "clear"],
-            &[[0; 8]; STATES],
+            &clear,
             1,
             |i, rows| unsafe {
-                black_box((ours.is_zero)(rows.as_ptr(), 8, place(i), order, &mut 0));
+                (ours.is_zero)(rows.as_ptr(), 8, place(i), order, &mut 0);
             },
-            |i, rows| unsafe {
-                black_box((rust.is_zero)(rows.as_ptr(), place(i), order, &mut 0));
-            },
+            Some(|i, rows: &mut Rows| unsafe {
+                (rust.is_zero)(rows.as_ptr(), place(i), order, &mut 0);
+            }),
         );
     }
+    let ranges: Vec<[usize; 2]> = (0..STATES)
+        .map(|_| {
+            let ends = [(); 2].map(|()| random.word() as usize % 512);
+            [ends[0].min(ends[1]), ends[0].max(ends[1])]
+        })
+        .collect();
+    line(
+        ["set", "", "half full, any range"],
+        &half,
+        1,
+        |i, rows| unsafe {
+            let [start, end] = ranges[i];
+            (ours.set)(rows.as_mut_ptr(), 8, start, end, 1);
+        },
+        Some(|i, rows: &mut Rows| unsafe {
+            let [start, end] = ranges[i];
+            (rust.set)(rows.as_mut_ptr(), start, end, 1);
+        }),
+    );
+    line(
+        ["fill", "", "half full"],
+        &half,
+        1,
+        |_, rows| unsafe {
+            (ours.fill)(rows.as_mut_ptr(), 8, 1);
+        },
+        Some(|_, rows: &mut Rows| unsafe {
+            (rust.fill)(rows.as_mut_ptr(), 1);
+        }),
+    );
     line(
         ["count_zeros", "", "half full"],
         &half,
         1,
         |_, rows| unsafe {
-            black_box((ours.count_zeros)(rows.as_ptr(), 8, &mut 0));
+            (ours.count_zeros)(rows.as_ptr(), 8, &mut 0);
         },
-        |_, rows| unsafe {
-            black_box((rust.count_zeros)(rows.as_ptr(), &mut 0));
-        },
+        Some(|_, rows: &mut Rows| unsafe {
+            (rust.count_zeros)(rows.as_ptr(), &mut 0);
+        }),
     );
 }

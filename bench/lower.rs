@@ -1,10 +1,5 @@
-//! Times our lower level's gets and puts against the Rust's: in one process, each side behind a C call
-//! through a pointer, on the same state. Ours has it flat; the Rust has it in its own layout, where it
-//! stays. Run by bench/run, as: lower LIBRARY..
-//!
-//! What was got is put back within the pass, so that each pass finds the same state. The two sides take
-//! turns, pass by pass, and each side's figure is its least pass: what else the machine does can only add to
-//! it.
+//! Times our lower level's gets and puts, and what is asked of one block, against the Rust's; sides.rs says
+//! what is called and turns.rs how it is timed. Run by bench/run, as: lower LIBRARY..
 
 #[path = "../oracle/library.rs"]
 mod library;
@@ -12,109 +7,43 @@ mod library;
 #[allow(dead_code)]
 #[path = "../oracle/random.rs"]
 mod random;
+// Nor all of its calls.
+#[allow(dead_code)]
+mod sides;
 mod state;
+mod turns;
 
-use std::hint::black_box;
-use std::time::Instant;
-
-use library::Library;
 use random::Random;
-use state::{Keeper, Kept, State};
+use sides::{Kept, Ours, Rust, line};
+use state::{MARK, State};
 
 const TREES: usize = 16;
-/// Gets in a pass, each with a start row of its own.
-const GETS: usize = 1024;
-const PASSES: usize = 1000;
+/// Calls in a pass, each with a start row, a frame or a block of its own.
+const CALLS: usize = 1024;
+/// The gets that one tree has before the next: the frames of a tree of 32 with one free in each huge frame.
+const RUN: usize = 32;
 
-unsafe extern "C" {
-    fn rb_get(
-        n: usize,
-        t: usize,
-        rows: *mut u64,
-        rows_len: usize,
-        entries: *mut u16,
-        entries_len: usize,
-        row: usize,
-        order: usize,
-        frame: &mut usize,
-        probes: &mut usize,
-    ) -> u32;
-    fn rb_put(
-        n: usize,
-        t: usize,
-        rows: *mut u64,
-        rows_len: usize,
-        entries: *mut u16,
-        entries_len: usize,
-        frame: usize,
-        order: usize,
-    ) -> u32;
-}
-
-type Get = unsafe extern "C" fn(
-    usize,
-    usize,
-    *mut u64,
-    usize,
-    *mut u16,
-    usize,
-    usize,
-    usize,
-    &mut usize,
-    &mut usize,
-) -> u32;
-type Put = unsafe extern "C" fn(usize, usize, *mut u64, usize, *mut u16, usize, usize, usize) -> u32;
-
-/// A get and a put on some memory: a get gives the code and the frame, a put the code.
+/// A get from a row, a get of a frame, and a put, on some memory: a get gives the code and the frame, a put
+/// the code.
 trait Side {
     fn get(&mut self, row: usize, order: usize) -> (u32, usize);
+    fn get_at(&mut self, frame: usize, order: usize) -> (u32, usize);
     fn put(&mut self, frame: usize, order: usize) -> u32;
-}
-
-/// Our calls as pointers, as the Rust's are.
-struct Ours {
-    state: State,
-    get: Get,
-    put: Put,
 }
 
 impl Side for Ours {
     fn get(&mut self, row: usize, order: usize) -> (u32, usize) {
-        let State { n, t, rows, entries } = &mut self.state;
-        let (rows_len, entries_len) = (rows.len(), entries.len());
-        let (rows, entries) = (rows.as_mut_ptr(), entries.as_mut_ptr());
-        let (mut frame, mut probes) = (0, 0);
-        let code = unsafe {
-            (self.get)(*n, *t, rows, rows_len, entries, entries_len, row, order, &mut frame, &mut probes)
-        };
-        (code, frame)
+        let mut found = 0;
+        (Ours::get(self, row, order, &mut found, &mut 0), found)
+    }
+
+    fn get_at(&mut self, frame: usize, order: usize) -> (u32, usize) {
+        let mut found = 0;
+        (Ours::get_at(self, frame, order, &mut found, &mut 0), found)
     }
 
     fn put(&mut self, frame: usize, order: usize) -> u32 {
-        let State { n, t, rows, entries } = &mut self.state;
-        let (rows_len, entries_len) = (rows.len(), entries.len());
-        let (rows, entries) = (rows.as_mut_ptr(), entries.as_mut_ptr());
-        unsafe { (self.put)(*n, *t, rows, rows_len, entries, entries_len, frame, order) }
-    }
-}
-
-/// The Rust in the build of one tree size. The names and types are those of export.rs.
-struct Rust {
-    keeper: Keeper,
-    get: unsafe extern "C" fn(*mut Kept, usize, usize, &mut usize) -> u32,
-    put: unsafe extern "C" fn(*mut Kept, usize, usize) -> u32,
-}
-
-impl Rust {
-    fn load(path: &str) -> Rust {
-        let library = Library::load(path);
-        unsafe {
-            Rust {
-                keeper: Keeper::of(&library),
-                get: library.function("kept_get"),
-                put: library.function("kept_put"),
-            }
-        }
+        Ours::put(self, frame, order)
     }
 }
 
@@ -125,13 +54,77 @@ struct OnKept<'a> {
 
 impl Side for OnKept<'_> {
     fn get(&mut self, row: usize, order: usize) -> (u32, usize) {
-        let mut frame = 0;
-        let code = unsafe { (self.rust.get)(self.kept, row, order, &mut frame) };
-        (code, frame)
+        let mut found = 0;
+        (unsafe { (self.rust.get)(self.kept, row, order, &mut found) }, found)
+    }
+
+    fn get_at(&mut self, frame: usize, order: usize) -> (u32, usize) {
+        let mut found = 0;
+        (unsafe { (self.rust.get_at)(self.kept, frame, order, &mut found) }, found)
     }
 
     fn put(&mut self, frame: usize, order: usize) -> u32 {
         unsafe { (self.rust.put)(self.kept, frame, order) }
+    }
+}
+
+/// The gets of a pass, of one order.
+struct Load {
+    order: usize,
+    /// A start row for each, or a frame.
+    places: Vec<usize>,
+    /// The places are frames.
+    at: bool,
+    /// So many gets come before their puts.
+    together: usize,
+    /// Of the places only the first of each run counts: every further get starts from the row where the one
+    /// before it found its frame, as the level above keeps it.
+    kept: bool,
+}
+
+impl Load {
+    /// One pass. What was got is put back in it, so that each finds the same state; every answer is told.
+    fn pass(&self, side: &mut impl Side, mut tell: impl FnMut(u32, usize)) {
+        let mut got = [0; RUN];
+        for run in self.places.chunks(RUN) {
+            let mut row = run[0];
+            for places in run.chunks(self.together) {
+                let mut done = 0;
+                for place in places {
+                    let (code, frame) = match self {
+                        Load { at: true, .. } => side.get_at(*place, self.order),
+                        Load { kept: true, .. } => side.get(row, self.order),
+                        _ => side.get(*place, self.order),
+                    };
+                    tell(code, frame);
+                    got[done] = frame;
+                    done += (code == 0) as usize;
+                    row = frame / 64;
+                }
+                got[..done].iter().for_each(|frame| tell(side.put(*frame, self.order), 0));
+            }
+        }
+    }
+
+    /// A line of the table: the time of a get, with its put where it found a block.
+    fn line(&self, name: &str, kind: &str, rust: &Rust, state: &State) {
+        let mut ours = Ours::of(state);
+        let mut theirs = OnKept { rust, kept: rust.keep(state) };
+        let (mut answers, mut others) = (Vec::new(), Vec::new());
+        self.pass(&mut ours, |code, frame| answers.push((code, frame)));
+        self.pass(&mut theirs, |code, frame| others.push((code, frame)));
+        assert_eq!(answers, others, "{name} of order {} on a state {kind}", self.order);
+        // Each get that found a block has a put after it.
+        let found = answers.len() - CALLS;
+
+        turns::line(
+            [name, &state.t.to_string(), &self.order.to_string(), kind, &format!("{}%", 100 * found / CALLS)],
+            CALLS,
+            || turns::pass(|| self.pass(&mut ours, |_, _| {})),
+            Some(|| turns::pass(|| self.pass(&mut theirs, |_, _| {}))),
+        );
+        let kept = rust.read(theirs.kept, state);
+        assert!(ours.state == *state && kept == *state, "what was got was not put back");
     }
 }
 
@@ -153,84 +146,113 @@ fn one_free(t: usize, random: &mut Random) -> State {
     state
 }
 
-/// A pass over the start rows: each with so many gets, then the puts of what they got.
-fn pass(side: &mut impl Side, rows: &[usize], order: usize, together: usize) {
-    let mut got = [0; 32];
-    for row in rows.chunks(together) {
-        let mut done = 0;
-        for _ in 0..together {
-            let (code, frame) = side.get(row[0], order);
-            got[done] = frame;
-            done += (code == 0) as usize;
+/// The crowded tree: gets put straight back, and a run of gets and then its puts, from kept start rows and
+/// from any.
+fn crowded_tree(rust: &Rust, random: &mut Random) {
+    let state = one_free(rust.t, random);
+    let tree_rows = 8 * rust.t as u64;
+    for (together, name) in [(1, "get, put"), (RUN, "32 gets, 32 puts")] {
+        for (kept, kind) in [(true, "one in 512 free, rows kept"), (false, "one in 512 free, any rows")] {
+            let mut places = Vec::new();
+            for _ in 0..CALLS / RUN {
+                let tree = random.below(TREES as u64);
+                places.extend((0..RUN).map(|_| (tree * tree_rows + random.below(tree_rows)) as usize));
+            }
+            Load { order: 0, places, at: false, together, kept }.line(name, kind, rust, &state);
         }
-        got[..done].iter().for_each(|frame| {
-            black_box(side.put(*frame, order));
-        });
     }
 }
 
-/// A line of the table. `together` is how many gets come before their puts.
-fn line(name: &str, rust: &Rust, state: &State, order: usize, together: usize, random: &mut Random) {
-    let State { n, t, .. } = *state;
-    let rows: Vec<usize> = (0..GETS).map(|_| random.below(n as u64 / 64) as usize).collect();
-    let mut ours =
-        Ours { state: state.clone(), get: black_box(rb_get as Get), put: black_box(rb_put as Put) };
-    let mut theirs = OnKept { rust, kept: rust.keeper.keep(state) };
-
-    // Both are to do the same work, and the share of gets that find a block is part of the table.
-    let mut done = 0;
-    for row in &rows {
-        let (one, other) = (ours.get(*row, order), theirs.get(*row, order));
-        assert_eq!(one, other, "a get of order {order} from row {row}");
-        if one.0 == 0 {
-            done += 1;
-            assert_eq!((ours.put(one.1, order), theirs.put(one.1, order)), (0, 0));
+/// Puts of blocks of which no two share frames, and questions whether blocks are free.
+fn blocks(rust: &Rust, half: &State, random: &mut Random) {
+    let singly = of_rows(rust.t, || u64::MAX);
+    let mut whole = State::fresh(rust.t, TREES);
+    whole.entries.fill(MARK);
+    for (order, kind, state) in [
+        (0, "held singly", &singly),
+        (3, "held singly", &singly),
+        (6, "held singly", &singly),
+        (7, "held singly", &singly),
+        (0, "held whole", &whole),
+        (9, "held whole", &whole),
+    ] {
+        // Of a huge frame held whole the first put holds the others singly, so each is put from once.
+        let size = if state == &whole { 512 } else { 1 << order };
+        let mut frames: Vec<usize> = (0..state.n).step_by(size).collect();
+        for i in 1..frames.len() {
+            frames.swap(i, random.below(i as u64 + 1) as usize);
         }
+        frames.truncate(CALLS);
+        line(
+            "put",
+            &order.to_string(),
+            (kind, state),
+            frames.len(),
+            |ours, i| ours.put(frames[i], order),
+            rust,
+            Some(|kept, i: usize| unsafe { (rust.put)(kept, frames[i], order) }),
+        );
     }
-
-    let mut least = [u128::MAX; 2];
-    for _ in 0..PASSES {
-        let start = Instant::now();
-        pass(&mut ours, &rows, order, together);
-        least[0] = least[0].min(start.elapsed().as_nanos());
-        let start = Instant::now();
-        pass(&mut theirs, &rows, order, together);
-        least[1] = least[1].min(start.elapsed().as_nanos());
+    for order in orders(rust.t) {
+        let frames = any_frames(half, order, random);
+        line(
+            "is_free",
+            &order.to_string(),
+            ("half full", half),
+            CALLS,
+            |ours, i| {
+                let mut yes = 0;
+                (ours.is_free(frames[i], order, &mut yes), yes)
+            },
+            rust,
+            Some(|kept, i: usize| {
+                let mut yes = 0;
+                (unsafe { (rust.is_free)(kept, frames[i], order, &mut yes) }, yes)
+            }),
+        );
     }
-    let kept = rust.keeper.read(theirs.kept, state);
-    assert!(ours.state == *state && kept == *state, "what was got was not put back");
+}
 
-    let [ours, rust] = least.map(|time| time as f64 / GETS as f64);
-    println!(
-        "| {t} | {order} | {name} | {}% | {ours:.1} | {rust:.1} | {:.2} |",
-        100 * done / GETS,
-        ours / rust
-    );
+fn orders(t: usize) -> [usize; 6] {
+    [0, 3, 6, 7, 9, 9 + t.ilog2() as usize]
+}
+
+fn any_frames(state: &State, order: usize, random: &mut Random) -> Vec<usize> {
+    (0..CALLS).map(|_| (random.below((state.n >> order) as u64) as usize) << order).collect()
 }
 
 fn main() {
     let mut random = Random(1);
-    println!("| T | order | state | found | ours, ns | Rust, ns | ratio |");
-    println!("|---|---|---|---|---|---|---|");
     for path in std::env::args().skip(1) {
         let rust = Rust::load(&path);
-        let t = rust.keeper.t;
+        let t = rust.t;
+        let fresh = State::fresh(t, TREES);
         // Of a crowded state one frame in sixteen is free.
         let crowded = of_rows(t, || (0..3).fold(random.word(), |row, _| row | random.word()));
-        let states = [
-            ("fresh", State::fresh(t, TREES)),
-            ("half full", State::half(t, TREES, &mut random)),
-            ("crowded", crowded),
-        ];
-        for (name, state) in &states {
-            for order in [0, 3, 6, 7, 9, 9 + t.ilog2() as usize] {
-                line(name, &rust, state, order, 1, &mut random);
+        let half = State::half(t, TREES, &mut random);
+        for (kind, state) in [("fresh", &fresh), ("half full", &half), ("crowded", &crowded)] {
+            for order in orders(t) {
+                let places = (0..CALLS).map(|_| random.below(state.n as u64 / 64) as usize).collect();
+                Load { order, places, at: false, together: 1, kept: false }
+                    .line("get, put", kind, &rust, state);
             }
         }
         if t == 32 {
-            let state = one_free(t, &mut random);
-            line("one frame free in each huge frame", &rust, &state, 0, 1, &mut random);
-            line("the same, 32 gets and then 32 puts", &rust, &state, 0, 32, &mut random);
+            crowded_tree(&rust, &mut random);
+        }
+        for (kind, state) in [("fresh", &fresh), ("half full", &half)] {
+            for order in orders(t) {
+                let places = any_frames(state, order, &mut random);
+                Load { order, places, at: true, together: 1, kept: false }.line(
+                    "get_at, put",
+                    kind,
+                    &rust,
+                    state,
+                );
+            }
+        }
+        if t == 32 {
+            blocks(&rust, &half, &mut random);
         }
     }
 }

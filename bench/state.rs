@@ -1,6 +1,5 @@
-//! Consistent states of whole trees: flat, as ours has them, and in the Rust's own layout, where they stay.
+//! Consistent states of whole trees, flat, as ours has them.
 
-use crate::library::Library;
 use crate::random::Random;
 
 pub const MARK: u16 = 65535;
@@ -49,41 +48,9 @@ impl State {
             }
         }
     }
-}
 
-/// Stands for what export.rs keeps.
-pub enum Kept {}
-
-/// The Rust's memory in the build of one tree size. The names and types are those of export.rs.
-pub struct Keeper {
-    pub t: usize,
-    keep: unsafe extern "C" fn(usize) -> *mut Kept,
-    copy: unsafe extern "C" fn(*mut Kept, *mut u64, *mut u16, u32),
-}
-
-impl Keeper {
-    pub fn of(library: &Library) -> Keeper {
-        unsafe {
-            let tree_huge: extern "C" fn() -> usize = library.function("tree_huge");
-            Keeper { t: tree_huge(), keep: library.function("keep"), copy: library.function("kept_copy") }
-        }
-    }
-
-    pub fn keep(&self, state: &State) -> *mut Kept {
-        let kept = unsafe { (self.keep)(state.n) };
-        self.write(kept, state);
-        kept
-    }
-
-    pub fn write(&self, kept: *mut Kept, state: &State) {
-        let (rows, entries) = (state.rows.as_ptr().cast_mut(), state.entries.as_ptr().cast_mut());
-        unsafe { (self.copy)(kept, rows, entries, 0) }
-    }
-
-    /// What is kept, by a state with its numbers.
-    pub fn read(&self, kept: *mut Kept, state: &State) -> State {
-        let mut copy = state.clone();
-        unsafe { (self.copy)(kept, copy.rows.as_mut_ptr(), copy.entries.as_mut_ptr(), 1) };
-        copy
+    pub fn copy_from(&mut self, other: &State) {
+        self.rows.copy_from_slice(&other.rows);
+        self.entries.copy_from_slice(&other.entries);
     }
 }

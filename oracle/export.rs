@@ -312,6 +312,13 @@ pub extern "C" fn oracle_keep(frames: usize) -> *mut Kept {
     Box::into_raw(Box::new(Kept { memory, lower }))
 }
 
+/// Starts it anew: 0 all free, 1 all held.
+#[unsafe(no_mangle)]
+pub unsafe extern "C" fn oracle_kept_start(kept: &mut Kept, init: u32) -> u32 {
+    let init = if init == 0 { Init::FreeAll } else { Init::AllocAll };
+    guarded(|| unsafe { kept.memory.lower(init) }.map_or(OTHER_ERROR, |_| 0))
+}
+
 /// Copies flat rows and entries in, or with `back` out.
 #[unsafe(no_mangle)]
 pub unsafe extern "C" fn oracle_kept_copy(kept: &mut Kept, rows: *mut u64, entries: *mut u16, back: u32) {
@@ -331,9 +338,31 @@ pub unsafe extern "C" fn oracle_kept_get(
     })
 }
 
+/// A get of that frame.
+#[unsafe(no_mangle)]
+pub unsafe extern "C" fn oracle_kept_get_at(
+    kept: &Kept,
+    frame: usize,
+    order: usize,
+    found: &mut usize,
+) -> u32 {
+    guarded(|| {
+        let got = kept.lower.get(RowId(0), order, Some(FrameId(frame)));
+        answer(got.map(|frame| frame.0), found)
+    })
+}
+
 #[unsafe(no_mangle)]
 pub unsafe extern "C" fn oracle_kept_put(kept: &Kept, frame: usize, order: usize) -> u32 {
     guarded(|| answer(kept.lower.put(FrameId(frame), order).map(|()| 0), &mut 0))
+}
+
+#[unsafe(no_mangle)]
+pub unsafe extern "C" fn oracle_kept_is_free(kept: &Kept, frame: usize, order: usize, yes: &mut u32) -> u32 {
+    guarded(|| {
+        *yes = kept.lower.is_free(FrameId(frame), order) as u32;
+        0
+    })
 }
 
 #[unsafe(no_mangle)]
