@@ -1,17 +1,20 @@
 -- Document 01's refusals: the answer of each check, what the checks that passed show to the next, and how checks are grouped. Assumes nothing.
-use mathlib.Core.Path.{_≡_, refl}
+use mathlib.Core.Path.{_≡_, refl, sym, ap, _∙_}
 use mathlib.Core.Bool.{true}
-use Prim.Native.Nat.{ℕ, zero, suc, _+_, _-_, _*_, _/_, _^_, _≤_, _<_}
+use Prim.Native.Nat.{ℕ, zero, suc, _+_, _-_, _*_, _/_, _%_, _^_, _≤_, _<_}
+use native.Mathlib.Nat.{add-div-right, div-add-mod', div-div-eq-div-mul, div-lt-iff-lt-mul, le-div-iff-mul-le, mul-pos}
 use native.Mathlib.Omega.{arith}
+use lib.Bits.{bitAnd, bitOr, or-add-and}
 use lib.Dec.{leb, ltb}
+use lib.Pow.{pow-pos}
 use borrow.Author.Tests.{lt-ltb, le-ltb, le-leb, lt-leb, ltb-true, leb-true}
 use Rattle.base.specs.Code.{unless, orElse}
-use Rattle.base.specs.Size.{Huge}
+use Rattle.base.specs.Size.{Huge, rowsOf}
 use Rattle.base.proofs.Codes.{stops, passes, none-of, holds}
-use Rattle.base.proofs.Sizes.{huge-high}
-use Rattle.shape.specs.Shape.{treeLog, isTree, topOrder, aligned, rowsNeeded, entriesNeeded}
+use Rattle.base.proofs.Sizes.{huge-high, mask-mod}
+use Rattle.shape.specs.Shape.{hugeOf, ceil, treeLog, isTree, topOrder, aligned, rowsNeeded, entriesNeeded}
 use Rattle.shape.specs.Refuse.{framesCode, lentCode, sizesCode, orderCode, Sized}
-use Rattle.shape.proofs.Laws.{tree-pow}
+use Rattle.shape.proofs.Laws.{tree-pow, tree-pos, huge-by-rows}
 use Rattle.shape.proofs.Lent.{sized}
 
 -- ---- 1: the frames
@@ -29,30 +32,49 @@ module _ (n : ℕ) where
   pub frames-past : (n ≡ 0 → ⊥) → 1048576 < n → 1 ≡ framesCode n
   frames-past s l = let some : 0 < n = omega arith in rw (lt-ltb 0 n some, lt-leb n 1048576 l)
 
--- frames that passed are within the limit
-pub frames-most : (n : ℕ) → framesCode n ≡ 0 → n ≤ 1048576
-frames-most zero e = omega arith
-frames-most (suc n) e = leb-true (suc n) 1048576 (holds _ 0 (rw (lt-ltb 0 (suc n) (omega arith)) at e))
+-- frames that passed are some
+pub frames-some : (n : ℕ) → framesCode n ≡ 0 → 0 < n
+frames-some zero e = absurd (omega arith)
+frames-some (suc n) e = omega arith
 
--- ---- 3: the lent slices, where r rows are needed and e entries, the entries by T's logarithm k
+-- ---- 3: the lent slices, by the last huge frame x, where those lent have rows for r huge frames
 
-module _ (h n t rl el : ℕ) {r : ℕ} (r-is : r ≡ rowsNeeded h n) where
-  -- rows too few
-  pub rows-short : rl < r → 3 ≡ lentCode h n t rl el
-  rows-short l = rw (← r-is, lt-leb r rl l)
+-- rounded up, a quotient is one more than that of the number before
+ceil-last : (n b : ℕ) → 0 < n → 0 < b → ceil n b ≡ (n - 1) / b + 1
+ceil-last n b p q = let e : n + (b - 1) ≡ n - 1 + b = omega arith in rw e (add-div-right (n - 1) q)
 
-  module _ {k e : ℕ} (tree : isTree t ≡ true) (k-is : k ≡ treeLog t) (e-is : e ≡ entriesNeeded h n (2 ^ k)) (rows : r ≤ rl) where
-    -- the entries by the logarithm are those by T
-    needed : e ≡ entriesNeeded h n t
-    needed = rw (e-is, k-is, tree-pow t tree)
+module _ (h n t rl el : ℕ) (huge : Huge h) (some : 0 < n) (tree : isTree t ≡ true) {x : ℕ} (x-is : x ≡ hugeOf h (n - 1)) where
+  rows-last : rowsNeeded h n ≡ rowsOf h * (x + 1)
+  rows-last = rw (ceil-last n (2 ^ h) some (pow-pos h), ← x-is)
 
-    -- rows enough, and entries too few
-    pub entries-short : el < e → 3 ≡ lentCode h n t rl el
-    entries-short l = rw (← r-is, ← needed, le-leb r rl rows, lt-leb e el l)
+  -- the last of its tree's entries has all the bits below T
+  entries-last : entriesNeeded h n t ≡ bitOr x (t - 1) + 1
+  entries-last =
+      let p = tree-pos t tree in
+      let rest : bitAnd x (t - 1) ≡ x % t = mask-mod x (treeLog t) (sym (tree-pow t tree)) ∙ ap (λ (s : ℕ). x % s) (tree-pow t tree) in
+      let last : (n - 1) / (2 ^ h * t) ≡ x / t = rw x-is (sym (div-div-eq-div-mul (n - 1) (2 ^ h) t)) in
+      rw (ceil-last n (2 ^ h * t) some (mul-pos (pow-pos h) p), last) (omega (arith, or-add-and x (t - 1), div-add-mod' x t))
 
-    -- both enough
-    pub both-lent : e ≤ el → 0 ≡ lentCode h n t rl el
-    both-lent l = rw (← r-is, ← needed, le-leb r rl rows, le-leb e el l)
+  module _ {r : ℕ} (r-is : r ≡ hugeOf h (rl * 64)) where
+    -- rows too few
+    pub rows-short : r ≤ x → 3 ≡ lentCode h n t rl el
+    rows-short l =
+        let few : rl < (x + 1) * rowsOf h = div-lt-iff-lt-mul (pow-pos (h - 6)) .0 (rw (← huge-by-rows rl huge, ← r-is) (omega arith)) in
+        rw (rows-last, lt-leb (rowsOf h * (x + 1)) rl (omega arith))
+
+    module _ (rows : x < r) where
+      enough : rowsOf h * (x + 1) ≤ rl
+      enough =
+          let below : x + 1 ≤ rl / rowsOf h = rw (← huge-by-rows rl huge, ← r-is) (omega arith) in
+          omega (arith, le-div-iff-mul-le (pow-pos (h - 6)) .0 below)
+
+      -- rows enough, and entries too few
+      pub entries-short : el ≤ bitOr x (t - 1) → 3 ≡ lentCode h n t rl el
+      entries-short l = rw (rows-last, entries-last, le-leb _ rl enough, lt-leb (bitOr x (t - 1) + 1) el (omega arith))
+
+      -- both enough
+      pub both-lent : bitOr x (t - 1) < el → 0 ≡ lentCode h n t rl el
+      both-lent l = rw (rows-last, entries-last, le-leb _ rl enough, le-leb (bitOr x (t - 1) + 1) el (omega arith))
 
 -- ---- 4: the order, where the top order is m
 

@@ -1,8 +1,11 @@
 // Refusals 1 to 6 of document 01, in their order, on natural numbers: no sum or product of any two numbers wraps.
 ghost use mathlib.Core.Path.{_≡_};
+ghost use mathlib.Core.Bool.{true};
+ghost use Prim.Native.Nat.{_<_};
 ghost use Rattle.base.specs.Code.{orElse};
 ghost use Rattle.base.specs.Size.{Huge};
-ghost use Rattle.shape.specs.Refuse.{framesCode, treeCode, sizesCode, orderCode, blockCode, startCode, frameCode};
+ghost use Rattle.shape.specs.Shape.{isTree};
+ghost use Rattle.shape.specs.Refuse.{framesCode, treeCode, lentCode, sizesCode, orderCode, blockCode, startCode, frameCode};
 
 fn frames(n: usize) -> u32
     ensures { λ r. ⌜ r ≡ framesCode n ⌝ }
@@ -19,6 +22,21 @@ fn tree(t: usize) -> u32
     if shape::is_tree(t) { 0 } else { 2 }
 }
 
+// 3: the last huge frame has its rows lent, and the last entry of its tree is lent.
+fn lent(h: usize, n: usize, t: usize, rows: usize, entries: usize) -> u32
+    requires { ⌜ (Huge h) × (0 < n) × (isTree t ≡ true) ⌝ }
+    ensures { λ r. ⌜ r ≡ lentCode h n t rows entries ⌝ }
+{
+    let last = shape::frame_huge(h, n - 1);
+    if shape::row_huge(h, rows) <= last {
+        return 3;
+    }
+    if entries <= last | (t - 1) {
+        return 3;
+    }
+    0
+}
+
 // 1, 2 and 3: what every call checks.
 pub fn sizes(h: usize, n: usize, t: usize, rows: usize, entries: usize) -> u32
     requires { ⌜ Huge h ⌝ }
@@ -32,13 +50,7 @@ pub fn sizes(h: usize, n: usize, t: usize, rows: usize, entries: usize) -> u32
     if code != 0 {
         return code;
     }
-    if rows < shape::rows_needed(h, n) {
-        return 3;
-    }
-    if entries < shape::entries_needed(h, shape::tree_log(t), n) {
-        return 3;
-    }
-    0
+    lent(h, n, t, rows, entries)
 }
 
 // 1 to 4.

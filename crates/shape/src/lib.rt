@@ -15,6 +15,9 @@ pub const MARK: u16 = 65535;
 // The most frames that N may be.
 pub const FRAMES_MAX: usize = 1_048_576;
 
+// The most huge frames of a tree.
+pub const TREE_MAX: usize = 512;
+
 // Free frames, huge frames that are free whole, and trees that are, with document 01's number.
 pub struct Stats {
     pub code: u32,
@@ -50,11 +53,13 @@ pub fn init_number(init: Init) -> usize
 pub fn is_tree(t: usize) -> bool
     ensures { λ r. ⌜ r ≡ isTree t ⌝ }
 {
-    let k = usize::trailing_zeros(t);
-    if k < 10 {
-        return 1usize << k == t;
+    if t == 0 {
+        return false;
     }
-    false
+    if t > TREE_MAX {
+        return false;
+    }
+    t & (t - 1) == 0
 }
 
 // log2 T.

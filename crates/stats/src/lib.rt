@@ -85,6 +85,20 @@ fn free_trees(entries: &[u16], t: usize, frames: usize, k: usize) -> usize
     sum
 }
 
+// The same. A tree of two or four entries is summed with no loop of its own, as the compiler is given its size as a number.
+fn free_trees_by_size(entries: &[u16], t: usize, frames: usize, k: usize) -> usize
+    requires { ⌜ (k * t ≤ length (now entries)) × (t ≤ 512) ⌝ }
+    ensures { λ r. ⌜ r ≡ count (λ y. eqb (spec.freeIn (now (entries .entry)) t (y * t)) frames) k 0 ⌝ }
+{
+    if t == 2 {
+        return free_trees(entries, 2, frames, k);
+    }
+    if t == 4 {
+        return free_trees(entries, 4, frames, k);
+    }
+    free_trees(entries, t, frames, k)
+}
+
 // Free frames, huge frames and trees of all entries. A tree of one huge frame is free where that is: none is summed.
 pub fn all(h: usize, n: usize, t: usize, entries: &[u16]) -> Stats
     requires { ⌜ (Huge h) × ((rl : ℕ) × Sized h n t rl (length (now entries))) ⌝ }
@@ -96,7 +110,7 @@ pub fn all(h: usize, n: usize, t: usize, entries: &[u16]) -> Stats
     let huge = count_of(entries, 1 << h, needed);
     let mut trees = huge;
     if t != 1 {
-        trees = free_trees(
+        trees = free_trees_by_size(
             entries,
             t,
             base::size(h + log),

@@ -55,8 +55,8 @@ size-requires c κs = shifts (c .before .before .before .before)
 huge-tree-requires : tie.Need-huge-tree-requires
 huge-tree-requires c κs = low (c .before .before .before .before .before)
 
-free-trees-requires : tie.Need-free-trees-requires
-free-trees-requires c κs =
+free-trees-by-size-requires : tie.Need-free-trees-by-size-requires
+free-trees-by-size-requires c κs =
     let a = c .before .before .before .before .before in
     let s = a .before .before .before .pre .1 .1 in
     (trees-lent s (a .before .tree-log .ensures) (a .entries-needed .ensures) (c .huge-tree .ensures), tree-high _ (s .tree))
@@ -68,7 +68,7 @@ returns c =
     let s = a .before .before .before in
     all-of-trees (s .pre .1 .1) (a .before .tree-log .ensures) (a .entries-needed .ensures) (s .args .entries .now)
     (b .before .free-in .ensures) (b .count-of .ensures) (whole-entry (s .pre .0))
-    (c .free-trees .ensures) (c .before .before .size .ensures) (c .before .huge-tree .ensures)
+    (c .free-trees-by-size .ensures) (c .before .before .size .ensures) (c .before .huge-tree .ensures)
 
 returns-2 : tie.Need-returns-2
 returns-2 c =
@@ -91,6 +91,6 @@ all-spec =
     add-size
     size-requires
     huge-tree-requires
-    free-trees-requires
+    free-trees-by-size-requires
     returns
     returns-2)
