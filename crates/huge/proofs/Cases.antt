@@ -3,7 +3,9 @@ use mathlib.Core.Path.{_≡_}
 use mathlib.Core.Bool.{true, false}
 use mathlib.Core.List.{List}
 use Prim.Native.Nat.{ℕ, _+_, _*_, _/_, _^_, _≤_, _<_}
+use native.Mathlib.Nat.{add-zero}
 use borrow.Author.Tests.{lt-ltb, le-ltb, le-leb, lt-leb}
+use lib.ListN.{set}
 use Rattle.base.specs.Walk.{first, written}
 use Rattle.base.specs.Code.{out}
 use Rattle.base.specs.Size.{rowsOf}
@@ -11,6 +13,13 @@ use Rattle.shape.specs.Shape.{mark}
 use Rattle.shape.specs.State.{got}
 use Rattle.shape.specs.declared.Got.{Got}
 use Rattle.huge.specs.Huge.{entriesAre, groupOf, groupAt, groupsPassed, takeGroup, getHuge, getHugeAt, putHuge, isFreeHuge}
+
+-- ---- a group of one entry
+
+-- it is written where the entry is
+pub one-written : (v : ℕ) (es : List ℕ) (at g : ℕ) → g ≡ 1 → set es at v ≡ written (λ i. v) es at g
+unfolding written
+one-written v es at g one = rw (one, add-zero)
 
 -- ---- a free group
 

@@ -30,6 +30,10 @@ fn write_entries(entries: &mut [u16], v: u16, at: usize, g: usize)
     requires { ⌜ at + g ≤ length (now entries) ⌝ }
     ensures { λ _. ⌜ now (entries .exit) ≡ written (λ i. v) (now (entries .entry)) at g ⌝ }
 {
+    if g == 1 {
+        entries[at] = v;
+        return;
+    }
     let mut j = 0;
     while j < g {
         entries[at + j] = v;

@@ -1,9 +1,10 @@
 // The two starts: every needed row and entry is written, and nothing beyond them.
 ghost use mathlib.Core.Path.{_≡_};
-ghost use Prim.Native.Nat.{_*_, _^_, _≤_, _<_};
-ghost use lib.ListN.{length};
+ghost use Prim.Native.Nat.{ℕ, _≤_};
+ghost use lib.ListN.{length, replicate};
+ghost use Rattle.base.specs.Walk.{pick, written};
 ghost use Rattle.base.specs.Size.{Huge};
-ghost use Rattle.shape.specs.Shape.{rowsNeeded};
+ghost use Rattle.shape.specs.Shape.{rowsNeeded, entriesNeeded, whole};
 ghost use Rattle.shape.specs.Refuse.{Sized};
 ghost use Rattle.shape.specs.State.{mem};
 ghost use Rattle.starts.specs.Starts as spec;
@@ -14,36 +15,36 @@ fn write_rows(h: usize, n: usize, rows: &mut [u64], c: usize)
     ensures { λ _. ⌜ now (rows .exit) ≡ spec.rowsFrom h n (now (rows .entry)) c ⌝ }
 {
     let needed = shape::rows_needed(h, n);
-    bits::write(&mut rows[0..needed], 0, c, false);
-    bits::write(&mut rows[0..needed], c, needed * 64, true);
+    let border = shape::frame_row(c);
+    bits::fill_rows(&mut rows[0..border], 0);
+    bits::fill_rows(&mut rows[border..needed], u64::MAX);
+    if border == needed {
+        return;
+    }
+    let clear = shape::frame_bit(c);
+    rows[border] = (u64::MAX >> clear) << clear;
 }
 
-// The free frames of a huge frame where all below N are.
-fn free_entry(h: usize, n: usize, x: usize) -> u16
-    requires { ⌜ (Huge h) × (x * 2 ^ h < 2 ^ 64) ⌝ }
-    ensures { λ r. ⌜ r ≡ spec.freeEntry h n x ⌝ }
+// Makes every entry v.
+fn fill_entries(entries: &mut [u16], v: u16)
+    ensures { λ _. ⌜ now (entries .exit) ≡ replicate (length (now (entries .entry))) v ⌝ }
 {
-    let first = shape::huge_frame(h, x);
-    if n <= first {
-        return 0;
-    }
-    if n - first < base::size(h) {
-        (n - first) as u16
-    } else {
-        1 << h
+    let mut x = 0;
+    while x < entries.len() {
+        entries[x] = v;
+        x += 1;
     }
 }
 
-// The mark for a huge frame that lies wholly below N.
-fn held_entry(h: usize, n: usize, x: usize) -> u16
-    requires { ⌜ (Huge h) × (x < 1048576) ⌝ }
-    ensures { λ r. ⌜ r ≡ spec.heldEntry h n x ⌝ }
+// Makes the entry of each huge frame that lies wholly below N v, and every other needed one 0.
+fn write_entries(h: usize, n: usize, t: usize, entries: &mut [u16], v: u16)
+    requires { ⌜ (Huge h) × ((rl : ℕ) × Sized h n t rl (length (now entries))) ⌝ }
+    ensures { λ _. ⌜ now (entries .exit) ≡ written (λ x. pick (whole h n x) v 0) (now (entries .entry)) 0 (entriesNeeded h n t) ⌝ }
 {
-    if shape::huge_frame(h, x + 1) <= n {
-        shape::MARK
-    } else {
-        0
-    }
+    let needed = shape::entries_needed(h, shape::tree_log(t), n);
+    let wholes = shape::frame_huge(h, n);
+    fill_entries(&mut entries[0..wholes], v);
+    fill_entries(&mut entries[wholes..needed], 0);
 }
 
 // All frames below N free.
@@ -52,12 +53,13 @@ pub fn free_all(h: usize, n: usize, t: usize, rows: &mut [u64], entries: &mut [u
     ensures { λ _. ⌜ mem (now (rows .exit)) (now (entries .exit)) ≡ spec.freeAll h n t (mem (now (rows .entry)) (now (entries .entry))) ⌝ }
 {
     write_rows(h, n, rows, n);
-    let needed = shape::entries_needed(h, shape::tree_log(t), n);
-    let mut x = 0;
-    while x < needed {
-        entries[x] = free_entry(h, n, x);
-        x += 1;
+    write_entries(h, n, t, entries, 1 << h);
+    let partial = shape::frame_huge(h, n);
+    let first = shape::huge_frame(h, partial);
+    if first == n {
+        return;
     }
+    entries[partial] = (n - first) as u16;
 }
 
 // All frames below N held.
@@ -66,10 +68,5 @@ pub fn reserve_all(h: usize, n: usize, t: usize, rows: &mut [u64], entries: &mut
     ensures { λ _. ⌜ mem (now (rows .exit)) (now (entries .exit)) ≡ spec.reserveAll h n t (mem (now (rows .entry)) (now (entries .entry))) ⌝ }
 {
     write_rows(h, n, rows, shape::huge_frame(h, shape::frame_huge(h, n)));
-    let needed = shape::entries_needed(h, shape::tree_log(t), n);
-    let mut x = 0;
-    while x < needed {
-        entries[x] = held_entry(h, n, x);
-        x += 1;
-    }
+    write_entries(h, n, t, entries, shape::MARK);
 }

@@ -1,4 +1,4 @@
--- `huge::write_entries` meets its contract. The loop's invariant: the first j of the entries are written. Assumes nothing.
+-- `huge::write_entries` meets its contract. One entry is written by itself; else the loop's invariant: the first j of the entries are written. Assumes nothing.
 use mathlib.Core.Path.{_≡_, refl, ap, _∙_}
 use mathlib.Core.List.{List}
 use Prim.Native.Nat.{ℕ, _+_, _-_, _≤_}
@@ -7,6 +7,7 @@ use borrow.Author.Needs.{needs}
 use lib.ListN.{length, set, length-set}
 use Rattle.base.specs.Walk.{written}
 use Rattle.base.proofs.Written.{written-more}
+use Rattle.huge.proofs.Cases.{one-written}
 use Rattle.huge.proofs.write_entries.Statement.{statement}
 use Rattle.huge.proofs.write_entries.Tie as tie
 
@@ -16,6 +17,20 @@ Inv-loop entries₀ v at g j₀ entries j = (j ≤ g) × (length entries ≡ len
 abbrev μ-loop : tie.MeasureT-loop
 μ-loop entries₀ v at g j₀ entries j = g - j
 
+mul-entries : tie.Need-mul-entries Inv-loop μ-loop
+mul-entries c = search needs
+
+slice-write-entries : tie.Need-slice-write-entries Inv-loop μ-loop
+slice-write-entries c = search needs
+
+same-length : tie.Need-same-length Inv-loop μ-loop
+same-length c = search needs
+
+returns : tie.Need-returns Inv-loop μ-loop
+returns c =
+    let s = c .before .args in
+    one-written (s .v) (s .entries .now) (s .at) (s .g) (c .if1 .taken)
+
 loop-holds : tie.Need-loop-holds Inv-loop μ-loop
 unfolding written
 loop-holds c = (omega arith, refl, refl)
@@ -23,11 +38,11 @@ loop-holds c = (omega arith, refl, refl)
 add-entries : tie.Need-add-entries Inv-loop μ-loop
 add-entries c = search needs
 
-mul-entries : tie.Need-mul-entries Inv-loop μ-loop
-mul-entries c = search needs
+mul-entries-2 : tie.Need-mul-entries-2 Inv-loop μ-loop
+mul-entries-2 c = search needs
 
-slice-write-entries : tie.Need-slice-write-entries Inv-loop μ-loop
-slice-write-entries c = search needs
+slice-write-entries-2 : tie.Need-slice-write-entries-2 Inv-loop μ-loop
+slice-write-entries-2 c = search needs
 
 add-j : tie.Need-add-j Inv-loop μ-loop
 add-j c = search needs
@@ -37,19 +52,19 @@ loop-less c = search needs
 
 loop-again : tie.Need-loop-again Inv-loop μ-loop
 loop-again c =
-    let s = c .before .before .args in
+    let s = c .before .before .before .args in
     let at = c .before .loop in (
       omega arith,
       simp length-set (at .inv .1),
       ap (λ (l : List ℕ). set l (s .at + at .j) (s .v)) (at .inv .2) ∙ written-more (λ i. s .v) (s .entries .now) (s .at) (at .j),
     )
 
-same-length : tie.Need-same-length Inv-loop μ-loop
-same-length c = search needs
+same-length-2 : tie.Need-same-length-2 Inv-loop μ-loop
+same-length-2 c = search needs
 
-returns : tie.Need-returns Inv-loop μ-loop
-returns c =
-    let s = c .before .before .args in
+returns-2 : tie.Need-returns-2 Inv-loop μ-loop
+returns-2 c =
+    let s = c .before .before .before .args in
     let at = c .before .loop in
     let e : at .j ≡ s .g = omega arith in
     at .inv .2 ∙ ap (written (λ i. s .v) (s .entries .now) (s .at)) e
@@ -60,12 +75,16 @@ write-entries-spec =
     (tie.spec
     Inv-loop
     μ-loop
-    loop-holds
-    add-entries
     mul-entries
     slice-write-entries
+    same-length
+    returns
+    loop-holds
+    add-entries
+    mul-entries-2
+    slice-write-entries-2
     add-j
     loop-less
     loop-again
-    same-length
-    returns)
+    same-length-2
+    returns-2)

@@ -1,88 +1,127 @@
--- `starts::free_all` meets its contract. The loop's invariant: the entries before x have the free frames of their huge frames, and the others are as they were.
--- Assumes nothing.
-use Prim.Native.Nat.{_-_}
+-- `starts::free_all` meets its contract: the entries of whole huge frames, and that of a partial one where there is one. Assumes nothing.
+use mathlib.Core.Path.{sym, _∙_}
 use native.Mathlib.Omega.{arith}
 use borrow.Author.Needs.{needs}
-use borrow.Author.Tests.{ltb-true}
-use Rattle.shape.specs.Shape.{entriesNeeded}
+use Rattle.base.proofs.Masks.{shl-one}
+use Rattle.base.proofs.Sizes.{huge-high, frames-fit}
+use Rattle.shape.proofs.Present.{huge-ends}
 use Rattle.starts.specs.Starts as spec
-use Rattle.shape.proofs.Needed.{frames-word, needed-is, entry-low}
-use Rattle.starts.proofs.Entries.{EntriesAt, entries-start, entries-more, entries-end}
+use Rattle.starts.proofs.Entries.{partial-needed, free-even, free-partial}
+use Rattle.starts.proofs.Rows.{begins-low}
 use Rattle.starts.proofs.free_all.Statement.{statement}
 use Rattle.starts.proofs.free_all.Tie as tie
 
-abbrev Inv-loop : tie.InvT-loop
-Inv-loop h n t rows entries₀ needed x₀ entries x = EntriesAt (spec.freeEntry h n) (entriesNeeded h n t) entries₀ needed entries x
-
-abbrev μ-loop : tie.MeasureT-loop
-μ-loop h n t rows entries₀ needed x₀ entries x = needed - x
-
-write-rows-requires : tie.Need-write-rows-requires Inv-loop μ-loop
+write-rows-requires : tie.Need-write-rows-requires
 write-rows-requires c κs = search needs
 
-tree-log-requires : tie.Need-tree-log-requires Inv-loop μ-loop
-tree-log-requires c κs = search needs
+cast-write-entries : tie.Need-cast-write-entries
+cast-write-entries c = omega (arith, huge-high (c .before .before .before .before .before .before .before .pre .0))
 
-entries-needed-requires : tie.Need-entries-needed-requires Inv-loop μ-loop
-entries-needed-requires c κs =
-    let pre = c .before .before .before .before .before .before .before .pre in
-    (pre .0, omega (arith, ltb-true), pre .1 .most)
+shl-write-entries : tie.Need-shl-write-entries
+shl-write-entries c = omega (arith, huge-high (c .before .before .before .before .before .before .before .pre .0))
 
-loop-holds : tie.Need-loop-holds Inv-loop μ-loop
-loop-holds c =
-    let k = c .before in
-    entries-start (needed-is (k .before .before .before .before .before .before .before .pre .1) (k .tree-log .ensures) (c .entries-needed .ensures))
+write-entries-requires : tie.Need-write-entries-requires
+write-entries-requires c κs = search needs
 
-free-entry-requires : tie.Need-free-entry-requires Inv-loop μ-loop
-free-entry-requires c κs =
-    let at = c .before in
-    let pre = at .before .before .before .before .before .before .before .before .before .pre in
-    let low = entry-low (pre .1) (pre .0) (rw (at .loop .inv .all) at (c .loop-test .taken)) in
-    (pre .0, frames-word (pre .0) (omega arith))
+frame-huge-requires : tie.Need-frame-huge-requires
+frame-huge-requires c κs = search needs
 
-mul-entries : tie.Need-mul-entries Inv-loop μ-loop
-mul-entries c = search needs
+huge-frame-requires : tie.Need-huge-frame-requires
+huge-frame-requires c κs =
+    let s = c .before .before .before .before .before .before .before .before .before .before .before in
+    (s .pre .0, omega (arith, begins-low _ _ (c .frame-huge .ensures)))
 
-slice-write-entries : tie.Need-slice-write-entries Inv-loop μ-loop
-slice-write-entries c = search needs
-
-add-x : tie.Need-add-x Inv-loop μ-loop
-add-x c = search needs
-
-loop-less : tie.Need-loop-less Inv-loop μ-loop
-loop-less c = search needs
-
-loop-again : tie.Need-loop-again Inv-loop μ-loop
-loop-again c = entries-more (c .before .before .loop .inv) (c .before .loop-test .taken) (c .free-entry .ensures)
-
-same-length : tie.Need-same-length Inv-loop μ-loop
+same-length : tie.Need-same-length
 same-length c = search needs
 
-same-length-2 : tie.Need-same-length-2 Inv-loop μ-loop
-same-length-2 c = c .before .loop .inv .long
+same-length-2 : tie.Need-same-length-2
+same-length-2 c = search needs
 
-returns : tie.Need-returns Inv-loop μ-loop
+returns : tie.Need-returns
 unfolding spec.freeAll
 returns c =
-    let w = c .before .before .before .before .before .before in
-    rw (w .write-rows .ensures, entries-end (c .before .loop .inv) (c .loop-test .left))
+    let q = c .before in
+    let p = q .before in
+    let e = p .before .before .before in
+    let w = e .before .before .before .before in
+    let s = w .before .before .before .before in
+    let high = huge-high (s .pre .0) in
+    rw (
+      w .write-rows .ensures,
+      e .write-entries .ensures,
+      shl-one 16 (s .args .h) (omega arith),
+      free-even (s .args .h) (s .args .n) (p .frame-huge .ensures) (s .args .entries .now) _ (sym (q .huge-frame .ensures) ∙ c .if1 .taken),
+    )
+
+sub-entries : tie.Need-sub-entries
+sub-entries c =
+    let q = c .before in
+    let p = q .before in
+    let s = p .before .before .before .before .before .before .before .before .before .before .before in
+    omega (arith, q .huge-frame .ensures, begins-low (s .args .h) (s .args .n) (p .frame-huge .ensures))
+
+cast-entries : tie.Need-cast-entries
+cast-entries c =
+    let q = c .before in
+    let p = q .before in
+    let s = p .before .before .before .before .before .before .before .before .before .before .before in
+    omega (arith, q .huge-frame .ensures, huge-ends (s .args .h) (s .args .n) _ (sym (p .frame-huge .ensures)) .1, frames-fit (s .pre .0))
+
+mul-entries : tie.Need-mul-entries
+mul-entries c =
+    let q = c .before in
+    let p = q .before in
+    let s = p .before .before .before .before .before .before .before .before .before .before .before in
+    omega (arith, partial-needed (s .pre .1) (p .frame-huge .ensures) (q .huge-frame .ensures) (c .if1 .left), s .pre .1 .entries)
+
+slice-write-entries : tie.Need-slice-write-entries
+slice-write-entries c =
+    let q = c .before in
+    let p = q .before in
+    let s = p .before .before .before .before .before .before .before .before .before .before .before in
+    omega (arith, partial-needed (s .pre .1) (p .frame-huge .ensures) (q .huge-frame .ensures) (c .if1 .left), s .pre .1 .entries)
+
+same-length-3 : tie.Need-same-length-3
+same-length-3 c = search needs
+
+same-length-4 : tie.Need-same-length-4
+same-length-4 c = search needs
+
+returns-2 : tie.Need-returns-2
+unfolding spec.freeAll
+returns-2 c =
+    let q = c .before in
+    let p = q .before in
+    let e = p .before .before .before in
+    let w = e .before .before .before .before in
+    let s = w .before .before .before .before in
+    let high = huge-high (s .pre .0) in
+    let inside = partial-needed (s .pre .1) (p .frame-huge .ensures) (q .huge-frame .ensures) (c .if1 .left) in
+    rw (
+      w .write-rows .ensures,
+      e .write-entries .ensures,
+      shl-one 16 (s .args .h) (omega arith),
+      q .huge-frame .ensures,
+      free-partial (s .args .h) (s .args .n) (p .frame-huge .ensures) (s .args .entries .now) _ inside (s .pre .1 .entries),
+    )
 
 pub free-all-spec : {M : Type 1} → statement M
 free-all-spec =
     tie.close
     (tie.spec
-    Inv-loop
-    μ-loop
     write-rows-requires
-    tree-log-requires
-    entries-needed-requires
-    loop-holds
-    free-entry-requires
-    mul-entries
-    slice-write-entries
-    add-x
-    loop-less
-    loop-again
+    cast-write-entries
+    shl-write-entries
+    write-entries-requires
+    frame-huge-requires
+    huge-frame-requires
     same-length
     same-length-2
-    returns)
+    returns
+    sub-entries
+    cast-entries
+    mul-entries
+    slice-write-entries
+    same-length-3
+    same-length-4
+    returns-2)

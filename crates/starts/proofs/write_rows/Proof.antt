@@ -1,72 +1,118 @@
--- `starts::write_rows` meets its contract: the needed rows hold N frames and more, so that both writes within them are writes of all rows. Assumes nothing.
+-- `starts::write_rows` meets its contract: the needed rows hold N frames and more, so that the border's row is one of them, or ends them. Assumes nothing.
 use native.Mathlib.Omega.{arith}
 use borrow.Author.Needs.{needs}
-use Rattle.base.proofs.Sizes.{frames-fit}
-use Rattle.shape.proofs.Present.{rows-enough, rows-few}
-use Rattle.starts.proofs.Rows.{rows-from}
+use lib.ListN.{length-set}
+use Rattle.shape.proofs.Present.{rows-enough}
+use Rattle.starts.proofs.Rows.{rows-whole, rows-border}
 use Rattle.starts.proofs.write_rows.Statement.{statement}
 use Rattle.starts.proofs.write_rows.Tie as tie
 
 rows-needed-requires : tie.Need-rows-needed-requires
 rows-needed-requires c κs = search needs
 
-sub-write : tie.Need-sub-write
-sub-write c = search needs
+frame-row-requires : tie.Need-frame-row-requires
+frame-row-requires c κs = search needs
 
-part-write-start : tie.Need-part-write-start
-part-write-start c = search needs
+sub-fill-rows : tie.Need-sub-fill-rows
+sub-fill-rows c = search needs
 
-part-write-end : tie.Need-part-write-end
-part-write-end c = search needs
+part-fill-rows-start : tie.Need-part-fill-rows-start
+part-fill-rows-start c = search needs
 
-write-requires : tie.Need-write-requires
-write-requires c κs = search needs
+part-fill-rows-end : tie.Need-part-fill-rows-end
+part-fill-rows-end c =
+    let s = c .before .before .before in
+    omega (arith, rows-enough (s .pre .0) (s .args .n))
 
-sub-write-2 : tie.Need-sub-write-2
-sub-write-2 c = search needs
+fill-rows-requires : tie.Need-fill-rows-requires
+fill-rows-requires c κs = search needs
 
-part-write-start-2 : tie.Need-part-write-start-2
-part-write-start-2 c = search needs
+mul-fill-rows : tie.Need-mul-fill-rows
+mul-fill-rows c = search needs
 
-part-write-end-2 : tie.Need-part-write-end-2
-part-write-end-2 c = search needs
-
-mul-write : tie.Need-mul-write
-mul-write c =
-    let k = c .before .before .before .before .before in
-    let s = k .before .before in
-    omega (arith, k .rows-needed .ensures, rows-few (s .pre .0) (s .args .n), frames-fit (s .pre .0))
-
-write-requires-2 : tie.Need-write-requires-2
-write-requires-2 c κs =
+sub-fill-rows-2 : tie.Need-sub-fill-rows-2
+sub-fill-rows-2 c =
     let k = c .before .before .before .before .before in
     let s = k .before .before in
     omega (arith, k .rows-needed .ensures, rows-enough (s .pre .0) (s .args .n))
+
+part-fill-rows-start-2 : tie.Need-part-fill-rows-start-2
+part-fill-rows-start-2 c =
+    let k = c .before .before .before .before .before in
+    let s = k .before .before in
+    omega (arith, k .rows-needed .ensures, rows-enough (s .pre .0) (s .args .n))
+
+part-fill-rows-end-2 : tie.Need-part-fill-rows-end-2
+part-fill-rows-end-2 c = search needs
+
+fill-rows-requires-2 : tie.Need-fill-rows-requires-2
+fill-rows-requires-2 c κs = search needs
 
 same-length : tie.Need-same-length
 same-length c = search needs
 
 returns : tie.Need-returns
 returns c =
-    let w = c .before .before in
-    let v = w .before .before .before .before in
-    let k = v .before .before in
+    let g = c .before .before .before in
+    let f = g .before .before .before .before in
+    let i = f .before .before in
+    let k = i .before in
     let s = k .before .before in
-    rows-from (s .pre .0) _ (s .args .rows .now) _ (k .rows-needed .ensures) (omega arith) (s .pre .2) (v .write .ensures) (w .write2 .ensures)
+    rows-whole (s .pre .0) _ _ _ _ (s .args .rows .now) (λ j. k .before .slice-known .given j .fits) (k .rows-needed .ensures) (i .frame-row .ensures)
+    (omega (arith, k .rows-needed .ensures)) (s .pre .2) (f .fill-rows .ensures) (g .fill-rows2 .ensures) (c .if1 .taken)
+
+frame-bit-requires : tie.Need-frame-bit-requires
+frame-bit-requires c κs = search needs
+
+shr-rows : tie.Need-shr-rows
+shr-rows c = search needs
+
+shl-rows : tie.Need-shl-rows
+shl-rows c = search needs
+
+mul-rows : tie.Need-mul-rows
+mul-rows c = search needs
+
+slice-write-rows : tie.Need-slice-write-rows
+slice-write-rows c =
+    let k = c .before .before .before .before .before .before .before .before .before .before .before in
+    let s = k .before .before in
+    omega (arith, k .rows-needed .ensures, rows-enough (s .pre .0) (s .args .n))
+
+same-length-2 : tie.Need-same-length-2
+same-length-2 c = simp length-set (omega arith)
+
+returns-2 : tie.Need-returns-2
+returns-2 c =
+    let g = c .before .before .before .before in
+    let f = g .before .before .before .before in
+    let i = f .before .before in
+    let k = i .before in
+    let s = k .before .before in
+    rows-border (s .pre .0) _ _ _ _ (s .args .rows .now) (λ j. k .before .slice-known .given j .fits) (k .rows-needed .ensures) (i .frame-row .ensures)
+    (omega (arith, k .rows-needed .ensures)) (s .pre .2) (f .fill-rows .ensures) (g .fill-rows2 .ensures) (c .before .if1 .left) (c .frame-bit .ensures)
 
 pub write-rows-spec : {M : Type 1} → statement M
 write-rows-spec =
     tie.close
     (tie.spec
     rows-needed-requires
-    sub-write
-    part-write-start
-    part-write-end
-    write-requires
-    sub-write-2
-    part-write-start-2
-    part-write-end-2
-    mul-write
-    write-requires-2
+    frame-row-requires
+    sub-fill-rows
+    part-fill-rows-start
+    part-fill-rows-end
+    fill-rows-requires
+    mul-fill-rows
+    sub-fill-rows-2
+    part-fill-rows-start-2
+    part-fill-rows-end-2
+    fill-rows-requires-2
     same-length
-    returns)
+    returns
+    frame-bit-requires
+    shr-rows
+    shl-rows
+    mul-rows
+    slice-write-rows
+    same-length-2
+    returns-2)
