@@ -1,9 +1,9 @@
--- Quotients and remainders: by where a number lies, of a sum, of whole rows, around the end of a wrap, and where a multiple ends. Assumes nothing.
+-- Quotients and remainders: by where a number lies, of a sum, of whole rows, and where a multiple ends. Assumes nothing.
 use mathlib.Core.Path.{_≡_, sym, ap, _∙_}
 use mathlib.Core.Logic.{_⊎_, inl, inr}
 use Prim.Native.Nat.{ℕ, _+_, _-_, _*_, _/_, _%_, _≤_, _<_}
 use native.Mathlib.Decide.{decLt}
-use native.Mathlib.Nat.{mod-lt, mod-eq-of-lt, mul-add-mod-self-right, mul-mod-left, div-add-mod', mul-le-mul-right, mul-assoc, lt-of-mul-lt-mul-right}
+use native.Mathlib.Nat.{mod-lt, mod-eq-of-lt, mul-add-mod-self-right, div-add-mod', mul-le-mul-right, mul-assoc, lt-of-mul-lt-mul-right}
 use native.Mathlib.Omega.{arith}
 use lib.Arith.{digits-lt, digits-div}
 
@@ -44,16 +44,3 @@ mod-rows a r n hr hn =
     let m : (a % n + 1) * 64 ≤ n * 64 = mul-le-mul-right 64 (omega arith) in
     let e : a * 64 + r ≡ a / n * (n * 64) + (a % n * 64 + r) = rw (← mul-assoc) (omega arith) in
     rw e (mul-add-mod-self-right (a / n) (n * 64) (a % n * 64 + r) ∙ mod-eq-of-lt (omega arith))
-
--- the next row, wrapping
-pub wrap-next : (x i n : ℕ) → i < n → i ≡ x % n → (i + 1 ≡ n → ⊥) → i + 1 ≡ (x + 1) % n
-wrap-next x i n h e ne =
-    let d : x / n * n + x % n ≡ x = div-add-mod' x n in
-    let s : x + 1 ≡ x / n * n + (i + 1) = omega arith in
-    rw s (sym (mul-add-mod-self-right (x / n) n (i + 1) ∙ mod-eq-of-lt (omega arith)))
-
-pub wrap-first : (x i n : ℕ) → i < n → i ≡ x % n → i + 1 ≡ n → 0 ≡ (x + 1) % n
-wrap-first x i n h e q =
-    let d : x / n * n + x % n ≡ x = div-add-mod' x n in
-    let s : x + 1 ≡ (x / n + 1) * n = omega arith in
-    rw s (sym (mul-mod-left (x / n + 1) n))

@@ -1,12 +1,13 @@
--- The sizes that follow from the huge order h, whichever of the two it is, the mask of a size, and a smaller size within a larger. Assumes nothing.
+-- The sizes that follow from the huge order h, whichever of the two it is, the masks of a size and of its places, and a smaller size within a larger. Assumes nothing.
 use mathlib.Core.Path.{_≡_, refl, sym, ap, _∙_}
-use Prim.Native.Nat.{ℕ, _+_, _-_, _*_, _%_, _^_, _≤_, _<_}
-use native.Mathlib.Nat.{add-zero, sub-add-cancel, mul-assoc, mod-lt}
+use Prim.Native.Nat.{ℕ, _+_, _-_, _*_, _/_, _%_, _^_, _≤_, _<_}
+use native.Mathlib.Nat.{add-zero, sub-add-cancel, mul-assoc, mul-le-mul-right, lt-of-mul-lt-mul-right, mul-mod-left, mod-lt, mod-eq-of-lt, div-add-mod'}
 use native.Mathlib.Omega.{arith}
 use lib.Bits.{bitAnd, and-mask}
 use lib.Dec.{lit<}
 use lib.Pow.{pow-pos, pow-add, mod-mod-pow}
 use Rattle.base.specs.Size.{Huge, nine, eleven, rowsOf}
+use Rattle.base.proofs.Masks.{and-block}
 use Rattle.base.proofs.Rests.{block-ends, mod-rows}
 
 -- a huge order is at least 9, so a huge frame is whole rows
@@ -55,3 +56,30 @@ place-ends p o k l e =
     let w = pow-divides o k l in
     let low : p % 2 ^ k < 2 ^ (k - o) * 2 ^ o = rw w (mod-lt p (pow-pos k)) in
     rw w at (block-ends (p % 2 ^ k) (2 ^ o) (2 ^ (k - o)) (rest-by-less p o k l ∙ e) low)
+
+-- the last place of a block of 2 ^ o in 2 ^ k, as a mask: it keeps a place exactly if that is aligned and its block ends in 2 ^ k
+module _ (p o k : ℕ) (l : o ≤ k) where
+  kept : bitAnd p (2 ^ k - 2 ^ o) ≡ p / 2 ^ o % 2 ^ (k - o) * 2 ^ o
+  kept =
+      let w = pow-divides o k l in
+      let z = pow-pos (k - o) in
+      let c : 2 ^ (k - o) - 1 + 1 ≡ 2 ^ (k - o) = omega arith in
+      let m : (2 ^ (k - o) - 1 + 1) * 2 ^ o ≡ 2 ^ k = rw c w in
+      let e : 2 ^ k - 2 ^ o ≡ (2 ^ (k - o) - 1) * 2 ^ o = omega arith in
+      ap (bitAnd p) e ∙ and-block p o (k - o)
+
+  pub kept-aligned : bitAnd p (2 ^ k - 2 ^ o) ≡ p → p % 2 ^ o ≡ 0
+  kept-aligned e = ap (λ (x : ℕ). x % 2 ^ o) (sym e ∙ kept) ∙ mul-mod-left (p / 2 ^ o % 2 ^ (k - o)) (2 ^ o)
+
+  pub kept-ends : bitAnd p (2 ^ k - 2 ^ o) ≡ p → p + 2 ^ o ≤ 2 ^ k
+  kept-ends e =
+      let low = mod-lt (p / 2 ^ o) (pow-pos (k - o)) in
+      let q : (p / 2 ^ o % 2 ^ (k - o) + 1) * 2 ^ o ≤ 2 ^ (k - o) * 2 ^ o = mul-le-mul-right (2 ^ o) (omega arith) in
+      omega (arith, kept, pow-divides o k l)
+
+  pub aligned-kept : p % 2 ^ o ≡ 0 → p + 2 ^ o ≤ 2 ^ k → bitAnd p (2 ^ k - 2 ^ o) ≡ p
+  aligned-kept a ends =
+      let d : p / 2 ^ o * 2 ^ o + p % 2 ^ o ≡ p = div-add-mod' p (2 ^ o) in
+      let z = pow-pos o in
+      let low : p / 2 ^ o < 2 ^ (k - o) = lt-of-mul-lt-mul-right (2 ^ o) (omega (arith, pow-divides o k l)) in
+      kept ∙ ap (λ (x : ℕ). x * 2 ^ o) (mod-eq-of-lt low) ∙ omega arith

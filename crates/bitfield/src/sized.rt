@@ -28,6 +28,7 @@ fn order_code(h: usize, len: usize, order: usize) -> u32
     if order <= h { 0 } else { 4 }
 }
 
+// The last place that a block of the order can have is also the mask of the aligned places: one test for the two.
 fn block_code(h: usize, len: usize, place: usize, order: usize) -> u32
     requires { ⌜ Huge h ⌝ }
     ensures { λ r. ⌜ r ≡ spec.blockCode h len place order ⌝ }
@@ -36,14 +37,11 @@ fn block_code(h: usize, len: usize, place: usize, order: usize) -> u32
     if code != 0 {
         return code;
     }
-    let size = base::size(order);
-    if base::size(h) - size < place {
-        return 5;
+    let last = base::size(h) - base::size(order);
+    if place & last == place {
+        return 0;
     }
-    if place & (size - 1) != 0 {
-        return 6;
-    }
-    0
+    if last < place { 5 } else { 6 }
 }
 
 pub fn set(h: usize, rows: &mut [u64], start: usize, end: usize, value: bool) -> u32
@@ -148,14 +146,15 @@ pub fn toggle(h: usize, rows: &mut [u64], place: usize, order: usize, expected: 
     toggle_rows(&mut rows[i..e], expected)
 }
 
-// The first clear block of the rows from row start on, wrapping.
+// The first clear block of the rows from row start on, wrapping by a mask.
 fn find_in_rows(h: usize, rows: &[u64], start: usize, order: usize) -> Placed
     requires { ⌜ (Huge h) × (length (now rows) ≡ rowsOf h) × (start < rowsOf h) × (order ≤ 6) ⌝ }
     ensures { λ r. ⌜ r ≡ spec.firstZeros h (now (rows .entry)) start order ⌝ }
 {
-    let mut i = start;
-    let mut left = rows.len();
-    while 0 < left {
+    let count = base::size(h - 6);
+    let mut passed = 0;
+    while passed < count {
+        let i = (start + passed) & (count - 1);
         let place = row::lowest_clear(rows[i], order);
         if place < 64 {
             return Placed {
@@ -163,13 +162,25 @@ fn find_in_rows(h: usize, rows: &[u64], start: usize, order: usize) -> Placed
                 place: i * 64 + place as usize,
             };
         }
-        i += 1;
-        if i == rows.len() {
-            i = 0;
-        }
-        left -= 1;
+        passed += 1;
     }
     Placed { code: 7, place: 0 }
+}
+
+// The same. Each order gets a loop of its own, as the compiler is given it as a number.
+fn find_by_order(h: usize, rows: &[u64], start: usize, order: usize) -> Placed
+    requires { ⌜ (Huge h) × (length (now rows) ≡ rowsOf h) × (start < rowsOf h) × (order ≤ 6) ⌝ }
+    ensures { λ r. ⌜ r ≡ spec.firstZeros h (now (rows .entry)) start order ⌝ }
+{
+    match order {
+        0 => find_in_rows(h, rows, start, 0),
+        1 => find_in_rows(h, rows, start, 1),
+        2 => find_in_rows(h, rows, start, 2),
+        3 => find_in_rows(h, rows, start, 3),
+        4 => find_in_rows(h, rows, start, 4),
+        5 => find_in_rows(h, rows, start, 5),
+        _ => find_in_rows(h, rows, start, 6),
+    }
 }
 
 // The first clear group of rows, from row 0 on.
@@ -204,7 +215,7 @@ pub fn first_zeros(h: usize, rows: &[u64], start_row: usize, order: usize) -> Pl
         };
     }
     if order <= 6 {
-        return find_in_rows(h, rows, start_row & (base::size(h - 6) - 1), order);
+        return find_by_order(h, rows, start_row & (base::size(h - 6) - 1), order);
     }
     find_group(h, rows, start_row, order)
 }

@@ -76,11 +76,7 @@ pub extern "C" fn rb_bitfield_is_zero(
     ensures { λ r. ⌜ out r (now (yes .exit)) ≡ flagged (spec.isZero hugeOrder (now (rows .entry)) place order) ⌝ }
 {
     let answer = bitfield::is_zero(rows, place, order);
-    if answer.yes {
-        *yes = 1;
-        return answer.code;
-    }
-    *yes = 0;
+    *yes = answer.yes as u32;
     answer.code
 }
 
@@ -217,11 +213,7 @@ pub extern "C" fn rb_is_free(
     ensures { λ r. ⌜ out r (now (yes .exit)) ≡ freeFlagged (lower.isFree hugeOrder n t (mem (now (rows .entry)) (now (entries .entry))) frame order) ⌝ }
 {
     let answer = lower::is_free(n, t, rows, entries, frame, order);
-    if answer.yes {
-        *yes = 1;
-        return answer.code;
-    }
-    *yes = 0;
+    *yes = answer.yes as u32;
     answer.code
 }
 

@@ -1,6 +1,6 @@
 -- A get's loop over the entries of a tree: where a visit is, what it may touch, and what the get answers. Assumes nothing.
 use mathlib.Core.Path.{_≡_, refl, sym, ap, _∙_}
-use mathlib.Core.Bool.{Bool, true, false}
+use mathlib.Core.Bool.{Bool, true}
 use mathlib.Core.List.{List}
 use Prim.Native.Nat.{ℕ, _+_, _-_, _*_, _/_, _%_, _^_, _≤_, _<_}
 use native.Mathlib.Nat.{add-zero, div-add-mod', div-le-self, div-mul-le-self, mod-lt, mod-mod, mul-div-cancel}
@@ -11,17 +11,17 @@ use lib.ListN.{set}
 use borrow.Author.Tests.{lt-ltb, le-ltb}
 use Rattle.base.specs.Code.{out}
 use Rattle.base.specs.Size.{Huge, rowsOf}
+use Rattle.base.specs.Bits.{withBits}
 use Rattle.base.proofs.Walks.{FirstAt, first-found, first-none}
 use Rattle.base.proofs.Sizes.{mask-mod}
 use Rattle.shape.specs.Shape.{hugeOf, treeLog}
-use Rattle.shape.specs.Refuse.{Started}
+use Rattle.shape.specs.Refuse.{Started, Blocked}
 use Rattle.shape.specs.State.{Mem, mem, got, entryOf}
 use Rattle.shape.proofs.Laws.{huge-of-row, tree-pow, tree-pos, tree-high}
 use Rattle.shape.proofs.Lent.{start-tree}
 use Rattle.small.specs.declared.Visit.{Visit}
 use Rattle.small.specs.declared.Visit.the-variants.{Place}
-use Rattle.small.specs.Small.{turned, visit, stops, entryAt, visitsPassed, ended, getSmall}
-use Rattle.small.proofs.Turns.{turn-done}
+use Rattle.small.specs.Small.{visit, stops, entryAt, visitsPassed, ended, getSmall}
 use Rattle.small.proofs.Visits.{Free}
 
 -- ---- the entries of a tree, from entry x on, wrapping
@@ -62,6 +62,10 @@ module _ {h n t rl el row o : ℕ} (H : Huge h) (s : Started h n t rl el row o) 
   pub entry-low : (j : ℕ) → entryAt t (row / rowsOf h) j < 1048576
   entry-low j = omega (arith, entry-in t (row / rowsOf h) (tree-pos t (s .sized .tree)) j, tree-high t (s .sized .tree), first-low)
 
+  -- a block that a visit answers is one that a call may name
+  pub found-block : {x f : ℕ} {rs es : List ℕ} → Free h n rs es o x f → Blocked h n t rl el f o
+  found-block free = record { sized = s .sized; top = s .top; ends = free .ends; even = free .even }
+
 -- ---- what a get answers
 
 -- whether the visit after j others ends a get
@@ -79,10 +83,10 @@ module _ (h n t : ℕ) (m : Mem) (row o j : ℕ) (at : FirstAt (stopsAt h n t m 
   unfolding getSmall visitsPassed
   get-none l = rw (← first-none (stopsAt h n t m row o) t j at l, le-ltb j t l)
 
--- the visit after j others answers block f, which is then turned, and the entry lowered
+-- the visit after j others answers block f, whose bits are then set, and the entry lowered
 pub get-taken : (h n t : ℕ) (rs es : List ℕ) (row o j : ℕ) → FirstAt (stopsAt h n t (mem rs es) row o) t j → j < t
     → {x : ℕ} (f : ℕ) → x ≡ entryAt t (row / rowsOf h) j → Place f ≡ visit h n (mem rs es) row o x → Free h n rs es o x f
-    → {r size : ℕ} {left : List ℕ} → out r left ≡ turned rs f o false → size ≡ 2 ^ o
+    → {size : ℕ} {left : List ℕ} → left ≡ withBits true rs f (f + 2 ^ o) → size ≡ 2 ^ o
     → out (got 0 f (j + 1)) (mem left (set es x (entryOf es x - size))) ≡ getSmall h n t (mem rs es) row o
-get-taken h n t rs es row o j at l f x-is e free turn size-is =
-    rw (turn-done rs f o false turn (free .clear) .1, size-is, ← free .huge) (get-ended h n t (mem rs es) row o j at l (Place f) (rw x-is at e) refl)
+get-taken h n t rs es row o j at l f x-is e free left-is size-is =
+    rw (left-is, size-is, ← free .huge) (get-ended h n t (mem rs es) row o j at l (Place f) (rw x-is at e) refl)

@@ -108,7 +108,7 @@ pub fn get(
                 };
             }
             Visit::Place(frame) => {
-                toggle(h, rows, frame, order, false);
+                bits::write_block(rows, frame, order, true);
                 entries[x] = entries[x] - (1u16 << order);
                 return Got {
                     code: 0,

@@ -175,7 +175,18 @@ fn at_tree(h: usize, t: usize, entries: &[u16], frame: usize) -> Stats
     }
 }
 
-// The same at a frame, its huge frame or its tree, as the order says.
+// The same. A tree of two entries is summed with no loop, as the compiler is given its size as a number.
+fn at_tree_by_size(h: usize, t: usize, entries: &[u16], frame: usize) -> Stats
+    requires { ⌜ (Huge h) × (isTree t ≡ true) × ((treeOf h t frame + 1) * t ≤ length (now entries)) ⌝ }
+    ensures { λ r. ⌜ ((rows : List ℕ) → r ≡ spec.atTree h t (mem rows (now (entries .entry))) frame) ⌝ }
+{
+    if t == 2 {
+        return at_tree(h, 2, entries, frame);
+    }
+    at_tree(h, t, entries, frame)
+}
+
+// At a frame, its huge frame or its tree, as the order says.
 pub fn at(h: usize, t: usize, rows: &[u64], entries: &[u16], frame: usize, order: usize) -> Stats
     requires { ⌜ (Huge h) × ((n : ℕ) × Framed h n t (length (now rows)) (length (now entries)) frame) ⌝ }
     ensures { λ r. ⌜ r ≡ spec.atOrder h t (mem (now (rows .entry)) (now (entries .entry))) frame order ⌝ }
@@ -193,7 +204,7 @@ pub fn at(h: usize, t: usize, rows: &[u64], entries: &[u16], frame: usize, order
         };
     }
     if order == shape::top_order(h, t) {
-        return at_tree(h, t, entries, frame);
+        return at_tree_by_size(h, t, entries, frame);
     }
     Stats {
         code: 0,

@@ -2,7 +2,7 @@
 -- The measure is what is left of the tree. Assumes nothing.
 use mathlib.Core.Path.{_≡_, refl, sym, ap, ap₂, _∙_}
 use Prim.Native.Nat.{ℕ, _+_, _-_, _*_, _/_, _%_, _^_, _≤_, _<_}
-use native.Mathlib.Nat.{div-mul-le-self, mod-lt}
+use native.Mathlib.Nat.{mod-lt}
 use native.Mathlib.Omega.{arith}
 use lib.Bits.{bitAnd}
 use lib.ListN.{length, length-set}
@@ -19,8 +19,9 @@ use Rattle.shape.proofs.Laws.{tree-pow, tree-pos, tree-high}
 use Rattle.shape.proofs.Lent.{present-rows}
 use Rattle.small.specs.declared.Visit.the-variants.{Damage}
 use Rattle.small.specs.Small.{visit, stops, entryAt}
+use Rattle.small.proofs.Below.{block-asked}
 use Rattle.small.proofs.Visits.{Free, visit-free}
-use Rattle.small.proofs.Gets.{entry-start, entry-masked, start-huge, start-first, first-low, entry-lent, entry-low, stopsAt, get-ended, get-none, get-taken}
+use Rattle.small.proofs.Gets.{entry-start, entry-masked, start-huge, start-first, first-low, entry-lent, entry-low, found-block, stopsAt, get-ended, get-none, get-taken}
 use Rattle.small.proofs.get.Statement.{statement}
 use Rattle.small.proofs.get.Tie as tie
 
@@ -153,20 +154,11 @@ found : (c : tie.After-seen Inv-loop μ-loop) → let a = turn c in let s = entr
     Free (s .h) (s .n) (s .rows .now) (s .entries .now) (s .order) (a .loop .x) (c .seen .given .0 .0)
 found c = visit-free (entry (turn c .before) .pre .0) _ _ _ _ _ _ _ (sym (seen-is (c .before .before)) ∙ c .seen .given .1)
 
-toggle-requires : tie.Need-toggle-requires Inv-loop μ-loop
-toggle-requires c κs =
+write-block-requires : tie.Need-write-block-requires Inv-loop μ-loop
+write-block-requires c κs =
     let k = c .before .before in
-    let a = turn k in
-    let s = entry (a .before) in
-    let f = k .seen .given .0 .0 in
-    let p = pow-pos (s .args .order) in
-    let e = found k .ends in (
-      s .pre .0,
-      omega (arith, s .pre .1),
-      omega (arith, s .pre .2 .sized .most),
-      found k .even,
-      rows-read a (f / 2 ^ s .args .h) (omega (arith, div-mul-le-self f (2 ^ s .args .h))),
-    )
+    let s = entry (turn k .before) in
+    block-asked (s .pre .0) (s .pre .1) (found-block (s .pre .0) (s .pre .2) (found k)) (ap length (turn k .loop .inv .0))
 
 mul-entries : tie.Need-mul-entries Inv-loop μ-loop
 mul-entries c = omega (arith, entry-small (turn (c .before .before .before .before .before)))
@@ -196,7 +188,7 @@ add-t25 : tie.Need-add-t25 Inv-loop μ-loop
 add-t25 c = omega (arith, turn-low (c .before .before .before .before .before .before .before .before .before .before .before))
 
 same-length-3 : tie.Need-same-length-3 Inv-loop μ-loop
-same-length-3 c = c .before .before .before .toggle .kept .1 .0 ∙ ap length (turn (c .before .before .before .before .before .before) .loop .inv .0)
+same-length-3 c = c .before .before .before .write-block .kept .0 ∙ ap length (turn (c .before .before .before .before .before .before) .loop .inv .0)
 
 same-length-4 : tie.Need-same-length-4 Inv-loop μ-loop
 same-length-4 c = simp length-set (ap length (turn (c .before .before .before .before .before .before) .loop .inv .1))
@@ -209,7 +201,7 @@ returns-2 c =
     let i = a .loop .inv in
     rw (i .1)
     (get-taken _ _ _ _ _ _ _ _ (i .3) (k .before .before .before .before .before .loop-test .taken) _ (i .2) (sym (k .seen .given .1) ∙ seen-is (k .before .before)) (found k)
-    (rw (i .0) at (c .before .before .before .toggle .ensures)) (shl-one 16 (s .args .order) (order-low s)))
+    (rw (i .0) at (c .before .before .before .write-block .ensures)) (shl-one 16 (s .args .order) (order-low s)))
 
 add-j : tie.Need-add-j Inv-loop μ-loop
 add-j c = omega (arith, turn-low (c .before .before .before .before .before))
@@ -269,7 +261,7 @@ get-spec =
     same-length-2
     returns
     enum-known-seen
-    toggle-requires
+    write-block-requires
     mul-entries
     slice-read-entries
     cast-entries

@@ -29,8 +29,8 @@ returns-2 c = by-huge (c .before .before .before .before .before .args .h) _ _ _
 top-order-requires : tie.Need-top-order-requires
 top-order-requires c κs = search needs
 
-at-tree-requires : tie.Need-at-tree-requires
-at-tree-requires c κs =
+at-tree-by-size-requires : tie.Need-at-tree-by-size-requires
+at-tree-by-size-requires c κs =
     let pre = c .before .before .before .before .before .before .pre in
     (pre .0, pre .1 .1 .sized .tree, frame-tree (pre .0) (pre .1 .1))
 
@@ -38,7 +38,7 @@ returns-3 : tie.Need-returns-3
 returns-3 c =
     let k = c .before .before in
     let rows = k .before .before .before .before .before .args .rows .now in
-    by-tree _ _ _ _ _ (k .before .before .if1 .left) (k .before .if2 .left) (k .top-order .ensures) (c .before .if3 .taken) (c .at-tree .ensures rows)
+    by-tree _ _ _ _ _ (k .before .before .if1 .left) (k .before .if2 .left) (k .top-order .ensures) (c .before .if3 .taken) (c .at-tree-by-size .ensures rows)
 
 returns-4 : tie.Need-returns-4
 returns-4 c =
@@ -47,4 +47,4 @@ returns-4 c =
 
 pub at-spec : {M : Type 1} → statement M
 at-spec =
-    tie.close (tie.spec at-frame-requires returns free-of-requires shr-t9 returns-2 top-order-requires at-tree-requires returns-3 returns-4)
+    tie.close (tie.spec at-frame-requires returns free-of-requires shr-t9 returns-2 top-order-requires at-tree-by-size-requires returns-3 returns-4)

@@ -1,12 +1,13 @@
--- `bitfield::sized::block_code` meets its contract: the checks in their order, the last two with no sum that could wrap. Assumes nothing.
-use mathlib.Core.Path.{refl, sym, _∙_}
-use Prim.Native.Nat.{_+_, _%_, _^_, _≤_, _<_}
+-- `bitfield::sized::block_code` meets its contract: a place that the mask keeps passes both of the last checks, and any other fails the
+-- first that it fails, with no sum that could wrap. Assumes nothing.
+use mathlib.Core.Path.{_≡_, refl, sym, _∙_}
+use Prim.Native.Nat.{_+_, _-_, _%_, _^_, _≤_, _<_}
 use native.Mathlib.Omega.{arith}
-use lib.Pow.{pow-mono, pow-pos}
+use lib.Pow.{pow-mono}
 use borrow.Author.Needs.{needs}
 use borrow.Author.Tests.{le-leb, lt-leb, eq-eqb, ne-eqb}
 use Rattle.base.proofs.Codes.{stops, passes}
-use Rattle.base.proofs.Sizes.{huge-high, mask-mod}
+use Rattle.base.proofs.Sizes.{huge-high, kept-aligned, kept-ends, aligned-kept}
 use Rattle.bitfield.proofs.Laws.{order-low}
 use Rattle.bitfield.proofs.sized.block_code.Statement.{statement}
 use Rattle.bitfield.proofs.sized.block_code.Tie as tie
@@ -22,43 +23,42 @@ low : (c : tie.Else1) → c .before .before .args .order ≤ c .before .before .
 low c = order-low _ _ _ (sym (c .before .order-code .ensures) ∙ c .if1 .left)
 
 size-requires : tie.Need-size-requires
-size-requires c κs = omega (arith, low c, huge-high (c .before .before .pre))
+size-requires c κs = omega (arith, huge-high (c .before .before .pre))
 
 size-requires-2 : tie.Need-size-requires-2
-size-requires-2 c κs = omega (arith, huge-high (c .before .before .before .pre))
+size-requires-2 c κs = omega (arith, low (c .before), huge-high (c .before .before .before .pre))
 
-sub-if2 : tie.Need-sub-if2
-sub-if2 c = omega (arith, c .size2 .ensures, c .before .size .ensures, pow-mono (low (c .before .before)))
+sub-last : tie.Need-sub-last
+sub-last c = omega (arith, c .size2 .ensures, c .before .size .ensures, pow-mono (low (c .before .before)))
+
+-- the last place, of the sizes as document 01 has them
+last-is : (c : tie.After-size2) → let a = c .before .before .before .before .args in c .before .size .result - c .size2 .result ≡ 2 ^ a .h - 2 ^ a .order
+last-is c = rw (c .before .size .ensures, c .size2 .ensures) refl
 
 returns-2 : tie.Need-returns-2
 returns-2 c =
-    let s = c .before .before .before .before in
-    let a = s .before .args in
-    let past : 2 ^ a .h < a .place + 2 ^ a .order = omega (arith, c .before .size2 .ensures, c .before .before .size .ensures, c .if2 .taken) in
-    passes (s .order-code .ensures) (c .before .before .before .if1 .left) (stops _ (rw (lt-leb (a .place + 2 ^ a .order) (2 ^ a .h) past)) (λ e. omega arith))
-
--- a block that ends in the huge frame
-ends : (c : tie.Else2) → c .before .before .before .before .before .args .place + 2 ^ c .before .before .before .before .before .args .order ≤ 2 ^ c .before .before .before .before .before .args .h
-ends c = omega (arith, c .before .size2 .ensures, c .before .before .size .ensures, pow-mono (low (c .before .before .before)))
-
-sub-if3 : tie.Need-sub-if3
-sub-if3 c = omega (arith, c .before .before .size .ensures, pow-pos (c .before .before .before .before .before .args .order))
+    let k = c .before .before .before in
+    let a = k .before .before .args in
+    let e = rw (last-is (c .before)) at (c .if2 .taken) in
+    passes (k .before .order-code .ensures) (k .if1 .left)
+    (passes {x = 0} (rw (le-leb (a .place + 2 ^ a .order) (2 ^ a .h) (kept-ends (a .place) (a .order) (a .h) (low k) e))) refl
+    (rw (eq-eqb (a .place % 2 ^ a .order) 0 (kept-aligned (a .place) (a .order) (a .h) (low k) e))))
 
 returns-3 : tie.Need-returns-3
 returns-3 c =
-    let s = c .before .before .before .before .before in
-    let a = s .before .args in
-    passes (s .order-code .ensures) (c .before .before .before .before .if1 .left)
-    (passes {x = 0} (rw (le-leb (a .place + 2 ^ a .order) (2 ^ a .h) (ends (c .before)))) refl
-    (rw (ne-eqb (a .place % 2 ^ a .order) 0 (λ e. c .if3 .taken (mask-mod (a .place) (a .order) (c .before .before .before .size .ensures) ∙ e)))))
+    let k = c .before .before .before .before in
+    let a = k .before .before .args in
+    let past : 2 ^ a .h < a .place + 2 ^ a .order = omega (arith, last-is (c .before .before), c .if3 .taken) in
+    passes (k .before .order-code .ensures) (k .if1 .left) (stops _ (rw (lt-leb (a .place + 2 ^ a .order) (2 ^ a .h) past)) (λ e. omega arith))
 
 returns-4 : tie.Need-returns-4
 returns-4 c =
-    let s = c .before .before .before .before .before in
-    let a = s .before .args in
-    passes (s .order-code .ensures) (c .before .before .before .before .if1 .left)
-    (passes {x = 0} (rw (le-leb (a .place + 2 ^ a .order) (2 ^ a .h) (ends (c .before)))) refl
-    (rw (eq-eqb (a .place % 2 ^ a .order) 0 (sym (mask-mod (a .place) (a .order) (c .before .before .before .size .ensures)) ∙ c .if3 .left))))
+    let k = c .before .before .before .before in
+    let a = k .before .before .args in
+    let ends : a .place + 2 ^ a .order ≤ 2 ^ a .h = omega (arith, last-is (c .before .before), c .if3 .left, pow-mono (low k)) in
+    passes (k .before .order-code .ensures) (k .if1 .left)
+    (passes {x = 0} (rw (le-leb (a .place + 2 ^ a .order) (2 ^ a .h) ends)) refl
+    (rw (ne-eqb (a .place % 2 ^ a .order) 0 (λ e. c .before .if2 .left (rw (last-is (c .before .before)) (aligned-kept (a .place) (a .order) (a .h) (low k) e ends))))))
 
 pub block-code-spec : {M : Type 1} → statement M
-block-code-spec = tie.close (tie.spec order-code-requires returns size-requires size-requires-2 sub-if2 returns-2 sub-if3 returns-3 returns-4)
+block-code-spec = tie.close (tie.spec order-code-requires returns size-requires size-requires-2 sub-last returns-2 returns-3 returns-4)

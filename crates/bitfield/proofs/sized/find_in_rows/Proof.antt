@@ -1,15 +1,14 @@
--- `bitfield::sized::find_in_rows` meets its contract. The loop's invariant: t rows are passed, none of their places is clear, and row i is the next. Assumes nothing.
-use mathlib.Core.Path.{_≡_, refl, sym, _∙_}
-use mathlib.Core.Logic.{⊎-elim}
+-- `bitfield::sized::find_in_rows` meets its contract. The loop's invariant: of the places of the rows that are passed none is clear. Assumes nothing.
+use mathlib.Core.Path.{_≡_, refl}
 use Prim.Native.Nat.{ℕ, _+_, _-_, _*_, _%_, _^_, _<_, _≤_}
-use native.Mathlib.Nat.{mod-eq-of-lt}
+use native.Mathlib.Nat.{mod-lt}
 use native.Mathlib.Omega.{arith}
 use borrow.Author.Needs.{needs}
-use lib.Pow.{pow-mono}
+use lib.Bits.{bitAnd}
+use lib.Pow.{pow-mono, pow-pos}
 use lib.ListN.{getD}
 use Rattle.base.specs.Size.{rowsOf}
-use Rattle.base.proofs.Sizes.{huge-low, huge-high}
-use Rattle.base.proofs.Rests.{wrap-next, wrap-first}
+use Rattle.base.proofs.Sizes.{huge-low, huge-high, mask-mod}
 use Rattle.row.specs.Row.{lowest}
 use Rattle.row.proofs.Laws.{lowest-le, lowest-clear, lowest-least}
 use Rattle.bitfield.proofs.Search.{NoneOf, search-missed, all-places, row-passed, row-found}
@@ -17,98 +16,106 @@ use Rattle.bitfield.proofs.sized.find_in_rows.Statement.{statement}
 use Rattle.bitfield.proofs.sized.find_in_rows.Tie as tie
 
 abbrev Inv-loop : tie.InvT-loop
-Inv-loop h rows start order i₀ left₀ i left =
-    (t : ℕ) × (t + left ≡ rowsOf h) × (i < rowsOf h) × (i ≡ (start + t) % rowsOf h) × NoneOf h rows start order (t * 2 ^ (6 - order))
+Inv-loop h rows start order count passed₀ passed = (passed ≤ rowsOf h) × NoneOf h rows start order (passed * 2 ^ (6 - order))
 
 abbrev μ-loop : tie.MeasureT-loop
-μ-loop h rows start order i₀ left₀ i left = left
+μ-loop h rows start order count passed₀ passed = count - passed
+
+sub-size : tie.Need-sub-size Inv-loop μ-loop
+sub-size c = omega (arith, huge-low (c .before .pre .0))
+
+size-requires : tie.Need-size-requires Inv-loop μ-loop
+size-requires c κs = omega (arith, huge-high (c .before .pre .0))
 
 loop-holds : tie.Need-loop-holds Inv-loop μ-loop
-loop-holds c =
-    let s = c .before in
-    let e : s .args .start + 0 ≡ s .args .start = omega arith in
-    (0, omega arith, omega arith, rw e (sym (mod-eq-of-lt (s .pre .2))), λ j l. absurd (omega arith))
+loop-holds c = (omega arith, λ j l. absurd (omega arith))
+
+-- a huge frame has 32 rows at most
+rows-few : (s : tie.Start Inv-loop μ-loop) → rowsOf (s .args .h) ≤ 32
+rows-few s =
+    let l : s .args .h - 6 ≤ 5 = omega (arith, huge-high (s .pre .0)) in
+    omega (arith, pow-mono l)
+
+-- the row that is visited after those passed
+abbrev visit : (a : tie.At-loop Inv-loop μ-loop) → ℕ
+visit a = let s = a .before .before .before .args in (s .start + a .loop .passed) % rowsOf (s .h)
+
+visit-low : (a : tie.At-loop Inv-loop μ-loop) → visit a < rowsOf (a .before .before .before .args .h)
+visit-low a = let s = a .before .before .before .args in mod-lt (s .start + a .loop .passed) (pow-pos (s .h - 6))
+
+-- as the code makes it
+masked : (a : tie.At-loop Inv-loop μ-loop) → bitAnd (a .before .before .before .args .start + a .loop .passed) (a .before .size .result - 1) ≡ visit a
+masked a = let s = a .before .before .before .args in mask-mod (s .start + a .loop .passed) (s .h - 6) (a .before .size .ensures)
+
+add-i : tie.Need-add-i Inv-loop μ-loop
+add-i c = let s = c .before .before .before .before in omega (arith, s .pre .2, c .before .loop .inv .0, rows-few s)
+
+sub-i : tie.Need-sub-i Inv-loop μ-loop
+sub-i c = omega (arith, c .loop-test .taken)
 
 mul-lowest-clear : tie.Need-mul-lowest-clear Inv-loop μ-loop
-mul-lowest-clear c = search needs
+mul-lowest-clear c = omega (arith, masked (c .before), visit-low (c .before), rows-few (c .before .before .before .before))
 
 shared-slice-read-lowest-clear : tie.Need-shared-slice-read-lowest-clear Inv-loop μ-loop
-shared-slice-read-lowest-clear c = search needs
+shared-slice-read-lowest-clear c = let a = c .before .before in rw (a .before .before .before .pre .1, masked a) (visit-low a)
 
 lowest-clear-requires : tie.Need-lowest-clear-requires Inv-loop μ-loop
 lowest-clear-requires c κs = search needs
 
--- row i is one of the 32 that a huge frame has at most
-row-low : (a : tie.At-loop Inv-loop μ-loop) → a .loop .i < 32
-row-low a =
-    let l : a .before .before .args .h - 6 ≤ 5 = omega (arith, huge-high (a .before .before .pre .0)) in
-    omega (arith, pow-mono l)
+mul-t15 : tie.Need-mul-t15 Inv-loop μ-loop
+mul-t15 c = let a = c .before .before .before .before in omega (arith, masked a, visit-low a, rows-few (a .before .before .before))
 
-mul-t12 : tie.Need-mul-t12 Inv-loop μ-loop
-mul-t12 c = omega (arith, row-low (c .before .before .before .before))
+cast-t16 : tie.Need-cast-t16 Inv-loop μ-loop
+cast-t16 c = search needs
 
-cast-t13 : tie.Need-cast-t13 Inv-loop μ-loop
-cast-t13 c = search needs
+add-t17 : tie.Need-add-t17 Inv-loop μ-loop
+add-t17 c = let a = c .before .before .before .before in omega (arith, masked a, visit-low a, rows-few (a .before .before .before), c .if1 .taken)
 
-add-t14 : tie.Need-add-t14 Inv-loop μ-loop
-add-t14 c = omega (arith, row-low (c .before .before .before .before))
-
--- what the row that is next has for its lowest place
-place-is : (c : tie.After-lowest-clear Inv-loop μ-loop) → let a = c .before .before .before in let s = a .before .before in
-    c .lowest-clear .result ≡ lowest (s .args .order) (getD (s .args .rows .now) ((s .args .start + a .loop .inv .0) % rowsOf (s .args .h)) 0)
-place-is c = rw (c .before .before .before .loop .inv .3) at (c .lowest-clear .ensures)
+-- what that row has for its lowest place
+place-is : (c : tie.After-lowest-clear Inv-loop μ-loop) → let a = c .before .before .before in let s = a .before .before .before in
+    c .lowest-clear .result ≡ lowest (s .args .order) (getD (s .args .rows .now) (visit a) 0)
+place-is c = rw (masked (c .before .before .before)) at (c .lowest-clear .ensures)
 
 returns : tie.Need-returns Inv-loop μ-loop
 returns c =
     let a = c .before .before .before .before in
-    let s = a .before .before in
-    let at = a .loop in
+    let s = a .before .before .before in
     let o = s .args .order in
     let p = c .before .lowest-clear .result in
-    let v = getD (s .args .rows .now) ((s .args .start + at .inv .0) % rowsOf (s .args .h)) 0 in
+    let v = getD (s .args .rows .now) (visit a) 0 in
     let is : p ≡ lowest o v = place-is (c .before) in
     let k = lowest-clear o v (s .pre .3) (omega (arith, c .if1 .taken)) in
-    rw (at .inv .3)
-    (row-found (s .pre .0) (s .args .rows .now) (s .args .start) o (s .pre .3) (at .inv .0) p (at .inv .4) (omega (arith, c .if1 .taken))
+    rw (masked a)
+    (row-found (s .pre .0) (s .args .rows .now) (s .args .start) o (s .pre .3) (a .loop .passed) p (a .loop .inv .1) (omega (arith, c .if1 .taken))
     (λ q aligned below. lowest-least o v q aligned (omega arith))
-    (s .pre .1) (omega arith) (c .if1 .taken) (rw is (k .aligned)) (rw is (k .bits)))
+    (s .pre .1) (omega (arith, c .before .before .before .loop-test .taken, a .before .size .ensures)) (c .if1 .taken) (rw is (k .aligned)) (rw is (k .bits)))
 
-add-i : tie.Need-add-i Inv-loop μ-loop
-add-i c = search needs
-
-sub-left : tie.Need-sub-left Inv-loop μ-loop
-sub-left c = search needs
+add-passed : tie.Need-add-passed Inv-loop μ-loop
+add-passed c = let a = c .before .before .before .before in omega (arith, a .loop .inv .0, rows-few (a .before .before .before))
 
 loop-less : tie.Need-loop-less Inv-loop μ-loop
 loop-less c = search needs
 
 loop-again : tie.Need-loop-again Inv-loop μ-loop
 loop-again c =
-    let r = c .before .before in
+    let r = c .before in
     let a = r .before .before .before in
-    let s = a .before .before in
-    let at = a .loop in
-    let t = at .inv .0 in
-    let e = at .inv .3 in
+    let s = a .before .before .before in
     let o = s .args .order in
-    let v = getD (s .args .rows .now) ((s .args .start + t) % rowsOf (s .args .h)) 0 in
-    let full : lowest o v ≡ 64 = omega (arith, place-is r, c .before .if1 .left, lowest-le o v (s .pre .3)) in
-    let n : s .args .start + (t + 1) ≡ s .args .start + t + 1 = omega arith in (
-      t + 1,
-      omega arith,
-      ⊎-elim (λ w. omega arith) (λ w. omega arith) (c .if2 .came),
-      rw n (⊎-elim (λ w. w .1 ∙ wrap-first _ _ _ (at .inv .2) e (omega arith)) (λ w. w .1 ∙ wrap-next _ _ _ (at .inv .2) e (λ z. omega arith)) (c .if2 .came)),
-      row-passed (s .pre .0) (s .args .rows .now) (s .args .start) o (s .pre .3) t 64 (at .inv .4) (omega arith)
+    let v = getD (s .args .rows .now) (visit a) 0 in
+    let full : lowest o v ≡ 64 = omega (arith, place-is r, c .if1 .left, lowest-le o v (s .pre .3)) in (
+      omega (arith, r .before .before .loop-test .taken, a .before .size .ensures),
+      row-passed (s .pre .0) (s .args .rows .now) (s .args .start) o (s .pre .3) (a .loop .passed) 64 (a .loop .inv .1) (omega arith)
           (λ q aligned below. lowest-least o v q aligned (omega arith)) refl,
     )
 
 returns-2 : tie.Need-returns-2 Inv-loop μ-loop
 returns-2 c =
-    let s = c .before .before .before in
+    let s = c .before .before .before .before in
     let at = c .before .loop in
-    let n : at .inv .0 ≡ rowsOf (s .args .h) = omega arith in
-    let all : at .inv .0 * 2 ^ (6 - s .args .order) ≡ 2 ^ (s .args .h - s .args .order) = rw n (all-places (s .args .order) (s .pre .0) (s .pre .3)) in
-    search-missed (s .args .h) (s .args .rows .now) (s .args .start) (s .args .order) (s .pre .1) (omega (arith, huge-low (s .pre .0))) (rw all at (at .inv .4))
+    let n : at .passed ≡ rowsOf (s .args .h) = omega (arith, c .loop-test .left, at .inv .0, c .before .before .size .ensures) in
+    let all : at .passed * 2 ^ (6 - s .args .order) ≡ 2 ^ (s .args .h - s .args .order) = rw n (all-places (s .args .order) (s .pre .0) (s .pre .3)) in
+    search-missed (s .args .h) (s .args .rows .now) (s .args .start) (s .args .order) (s .pre .1) (omega (arith, huge-low (s .pre .0))) (rw all at (at .inv .1))
 
 pub find-in-rows-spec : {M : Type 1} → statement M
 find-in-rows-spec =
@@ -116,16 +123,19 @@ find-in-rows-spec =
     (tie.spec
     Inv-loop
     μ-loop
+    sub-size
+    size-requires
     loop-holds
+    add-i
+    sub-i
     mul-lowest-clear
     shared-slice-read-lowest-clear
     lowest-clear-requires
-    mul-t12
-    cast-t13
-    add-t14
+    mul-t15
+    cast-t16
+    add-t17
     returns
-    add-i
-    sub-left
+    add-passed
     loop-less
     loop-again
     returns-2)

@@ -26,11 +26,11 @@ sub-size c = omega (arith, huge-low (c .before .before .before .before .pre))
 size-requires : tie.Need-size-requires
 size-requires c κs = omega (arith, huge-high (c .before .before .before .before .pre))
 
-sub-find-in-rows : tie.Need-sub-find-in-rows
-sub-find-in-rows c = rw (c .size .ensures) (pow-pos _)
+sub-find-by-order : tie.Need-sub-find-by-order
+sub-find-by-order c = rw (c .size .ensures) (pow-pos _)
 
-find-in-rows-requires : tie.Need-find-in-rows-requires
-find-in-rows-requires c κs =
+find-by-order-requires : tie.Need-find-by-order-requires
+find-by-order-requires c κs =
     let k = c .before .before in
     let s = k .before .before .before in (
       s .pre,
@@ -43,7 +43,7 @@ returns-2 : tie.Need-returns-2
 returns-2 c =
     let s = c .before .before .before .before .before .before in
     let a = s .args in
-    c .find-in-rows .ensures
+    c .find-by-order .ensures
     ∙ ap (λ (x : ℕ). spec.firstZeros (a .h) (a .rows .now) x (a .order)) (mask-mod (a .start-row) (a .h - 6) (c .before .size .ensures))
     ∙ start-mod (a .h) (a .rows .now) (a .start-row) (a .order)
 
@@ -65,8 +65,8 @@ first-zeros-spec =
     returns
     sub-size
     size-requires
-    sub-find-in-rows
-    find-in-rows-requires
+    sub-find-by-order
+    find-by-order-requires
     returns-2
     find-group-requires
     returns-3)
