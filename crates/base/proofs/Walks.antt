@@ -38,6 +38,12 @@ module _ (p : ℕ → Bool) (n : ℕ) where
   unfolding first
   first-more i a h e = (omega arith, (ap (first p (n - (i + 1))) (add-one i)) ∙ rw (sub-step n i h, first, e) at (a .1))
 
+  pub first-skip : (i d : ℕ) → FirstAt i → i + d ≤ n → ((k : ℕ) → i ≤ k → k < i + d → p k ≡ false) → FirstAt (i + d)
+  first-skip i zero a l none = rw (add-zero i) a
+  first-skip i (suc d) a l none =
+      let e : i + suc d ≡ i + d + 1 = omega arith in
+      rw e (first-more (i + d) (first-skip i d a (omega arith) (λ k u v. none k u (omega arith))) (omega arith) (none (i + d) (omega arith) (omega arith)))
+
   pub first-none : (i : ℕ) → FirstAt i → n ≤ i → i ≡ first p n 0
   unfolding first
   first-none i a h = rw (sub-end n i h, first) at (a .1)

@@ -19,12 +19,12 @@ use Rattle.shape.specs.declared.Got.{Got}
 use Rattle.shape.specs.Shape.{hugeOf, treeOf, entriesNeeded}
 use Rattle.shape.specs.State.{Mem, start, got}
 use Rattle.shape.proofs.Laws.{tree-pos, tree-of-huge, tree-by-rows}
-use Rattle.shape.proofs.Lent.{started, started-exactly, start-tree}
+use Rattle.shape.proofs.Lent.{started, started-exactly}
 use Rattle.huge.specs.Huge.{groupOf}
 use Rattle.small.specs.declared.Visit.{Visit}
 use Rattle.small.specs.declared.Visit.the-variants.{Pass, Damage, Place}
 use Rattle.small.specs.Small.{taken, visit, stops, entryAt, visitsPassed, ended, getSmall}
-use Rattle.small.proofs.Gets.{entry-in, stopsAt}
+use Rattle.small.proofs.Gets.{entry-lent, stopsAt}
 use Rattle.lower.specs.Calls.{get}
 use Rattle.claims.specs.Consistent.{Consistent, free}
 use Rattle.claims.specs.Exact.{behind, round, turn, Block, Missed, First}
@@ -53,9 +53,7 @@ module _ {h n t : ℕ} {m : Mem} (H : Huge h) (c : Consistent h n t m) (row o : 
 
   -- the tree's entries are needed
   entry-needed : (j : ℕ) → entryAt t (row / rowsOf h) j < entriesNeeded h n t
-  entry-needed j =
-      let s = started h n t (length (m .rows)) (length (m .entries)) row o passes in
-      omega (arith, entry-in t (row / rowsOf h) pos j, start-tree H (started-exactly s))
+  entry-needed = entry-lent H (started-exactly (started h n t (length (m .rows)) (length (m .entries)) row o passes))
 
   -- a block is in the start row's tree where its huge frame is
   tree-ring : (f : ℕ) → treeOf h t f ≡ treeOf h t (row * 64) → hugeOf h f / t ≡ row / rowsOf h / t

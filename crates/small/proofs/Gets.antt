@@ -3,7 +3,7 @@ use mathlib.Core.Path.{_≡_, refl, sym, ap, _∙_}
 use mathlib.Core.Bool.{Bool, true}
 use mathlib.Core.List.{List}
 use Prim.Native.Nat.{ℕ, _+_, _-_, _*_, _/_, _%_, _^_, _≤_, _<_}
-use native.Mathlib.Nat.{add-zero, div-add-mod', div-le-self, div-mul-le-self, mod-lt, mod-mod, mul-div-cancel}
+use native.Mathlib.Nat.{div-add-mod', div-le-self, div-mul-le-self, mod-lt, mul-div-cancel}
 use native.Mathlib.Omega.{arith}
 use lib.Bits.{bitAnd}
 use lib.Dec.{lit<}
@@ -14,7 +14,7 @@ use Rattle.base.specs.Size.{Huge, rowsOf}
 use Rattle.base.specs.Bits.{withBits}
 use Rattle.base.proofs.Walks.{FirstAt, first-found, first-none}
 use Rattle.base.proofs.Sizes.{mask-mod}
-use Rattle.shape.specs.Shape.{hugeOf, treeLog}
+use Rattle.shape.specs.Shape.{hugeOf, isTree, treeLog}
 use Rattle.shape.specs.Refuse.{Started, Blocked}
 use Rattle.shape.specs.State.{Mem, mem, got, entryOf}
 use Rattle.shape.proofs.Laws.{huge-of-row, tree-pow, tree-pos, tree-high}
@@ -26,18 +26,24 @@ use Rattle.small.proofs.Visits.{Free}
 
 -- ---- the entries of a tree, from entry x on, wrapping
 
-module _ (t x : ℕ) (pos : 0 < t) where
-  -- none is visited before x
-  pub entry-start : x ≡ entryAt t x 0
-  entry-start = sym (rw (add-zero (x % t), mod-mod x t) (div-add-mod' x t))
+module _ (t x : ℕ) (tree : isTree t ≡ true) where
+  -- the place of x in its tree, by a mask, T being a power of 2
+  pub child-is : bitAnd x (t - 1) ≡ x % t
+  child-is = mask-mod x (treeLog t) (sym (tree-pow t tree)) ∙ ap (λ (m : ℕ). x % m) (tree-pow t tree)
 
-  -- each is one of the tree's
-  pub entry-in : (j : ℕ) → entryAt t x j < x / t * t + t
-  entry-in j = omega (arith, mod-lt (x % t + j) pos)
+  -- the entry that is visited after j others, by masks too
+  pub entry-masked : (j : ℕ) → x - bitAnd x (t - 1) + bitAnd (bitAnd x (t - 1) + j) (t - 1) ≡ entryAt t x j
+  entry-masked j =
+      let first : x - x % t ≡ x / t * t = omega (arith, div-add-mod' x t) in
+      rw (child-is, first, mask-mod (x % t + j) (treeLog t) (sym (tree-pow t tree)), tree-pow t tree)
 
-  -- the code finds it by a mask, T being a power of 2
-  pub entry-masked : (k : ℕ) {child first : ℕ} → 2 ^ k ≡ t → first ≡ x / t * t → child ≡ x % t → (j : ℕ) → first + bitAnd (child + j) (t - 1) ≡ entryAt t x j
-  entry-masked k {child} e first-is child-is j = rw (first-is, mask-mod (child + j) k (sym e), child-is, e)
+  -- it is one of the tree's
+  pub entry-in : (j : ℕ) → entryAt t x j < (x / t + 1) * t
+  entry-in j = omega (arith, mod-lt (x % t + j) (tree-pos t tree))
+
+  -- and far below a word's end where x is
+  pub entry-near : (j : ℕ) → entryAt t x j < x + 512
+  entry-near j = omega (arith, entry-in j, div-mul-le-self x t, tree-high t tree)
 
 -- ---- what a get without a frame may touch
 
@@ -46,21 +52,17 @@ module _ {h n t rl el row o : ℕ} (H : Huge h) (s : Started h n t rl el row o) 
   pub start-huge : hugeOf h (row * 64) ≡ row / rowsOf h
   start-huge = rw (huge-of-row (row * 64) H, mul-div-cancel row (lit< tt))
 
-  -- the first entry of its tree, as `tree_huge` says it
-  pub start-first : {k y x first : ℕ} → k ≡ treeLog t → x ≡ hugeOf h (row * 64) → y ≡ x / 2 ^ k → first ≡ y * 2 ^ k → first ≡ row / rowsOf h / t * t
-  start-first k-is x-is y-is first-is = rw (first-is, y-is, x-is, k-is, tree-pow t (s .sized .tree), start-huge)
-
   -- which is far below a word's end
-  pub first-low : row / rowsOf h / t * t < 16384
-  first-low = omega (arith, s .begins, s .sized .most, div-le-self row (rowsOf h), div-mul-le-self (row / rowsOf h) t)
+  pub start-low : row / rowsOf h < 16384
+  start-low = omega (arith, s .begins, s .sized .most, div-le-self row (rowsOf h))
 
   -- the entry of each visit is lent
   pub entry-lent : (j : ℕ) → entryAt t (row / rowsOf h) j < el
-  entry-lent j = omega (arith, entry-in t (row / rowsOf h) (tree-pos t (s .sized .tree)) j, start-tree H s)
+  entry-lent j = omega (arith, entry-in t (row / rowsOf h) (s .sized .tree) j, start-tree H s)
 
   -- and far below a word's end
   pub entry-low : (j : ℕ) → entryAt t (row / rowsOf h) j < 1048576
-  entry-low j = omega (arith, entry-in t (row / rowsOf h) (tree-pos t (s .sized .tree)) j, tree-high t (s .sized .tree), first-low)
+  entry-low j = omega (arith, entry-near t (row / rowsOf h) (s .sized .tree) j, start-low)
 
   -- a block that a visit answers is one that a call may name
   pub found-block : {x f : ℕ} {rs es : List ℕ} → Free h n rs es o x f → Blocked h n t rl el f o

@@ -3,3 +3,4 @@ pub mod Below
 pub mod Answers
 pub mod Visits
 pub mod Gets
+pub mod Skips

@@ -29,10 +29,14 @@ abbrev pub searched : ℕ → ℕ → ℕ → ℕ → ℕ → Placed → Visit
 searched h n e x o a =
     pick (eqb (a .code) 0) (pick (leb (x * 2 ^ h + a .place + 2 ^ o) n) (Place (x * 2 ^ h + a .place)) Damage) (pick (leb e (2 ^ h)) Pass Damage)
 
--- a visit of entry x: "skip the mark and counts below 2^order"; 8 at "an eligible absent entry"; else "search the huge frame"
+-- whether entry x is eligible: "skip the mark and counts below 2^order"
+abbrev pub eligible : List ℕ → ℕ → ℕ → Bool
+eligible es o x = leb (2 ^ o) (freeOf (entryOf es x))
+
+-- a visit of entry x: passed unless eligible; 8 at "an eligible absent entry"; else "search the huge frame"
 unfoldable pub visit : ℕ → ℕ → Mem → ℕ → ℕ → ℕ → Visit
 visit h n m row o x =
-    pick (leb (2 ^ o) (freeOf (entryOf (m .entries) x)))
+    pick (eligible (m .entries) o x)
     (pick (ltb (x * 2 ^ h) n) (searched h n (entryOf (m .entries) x) x o (firstZeros h (partOf h (m .rows) x) row o)) Damage)
     Pass
 

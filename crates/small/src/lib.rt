@@ -1,12 +1,15 @@
 // Orders below the huge order h: one entry, and the rows of its huge frame. Search first, write afterwards, so that a refusal writes nothing.
 ghost use mathlib.Core.Path.{_≡_};
 ghost use mathlib.Core.Bool.{true, false};
-ghost use Prim.Native.Nat.{ℕ, _+_, _*_, _/_, _%_, _^_, _≤_, _<_};
+ghost use Prim.Native.Nat.{ℕ, _+_, _-_, _*_, _/_, _%_, _^_, _≤_, _<_};
+ghost use lib.Dec.{leb};
 ghost use lib.ListN.{length};
+ghost use Rattle.base.specs.Walk.{first};
 ghost use Rattle.base.specs.Code.{out};
 ghost use Rattle.base.specs.Size.{Huge, rowsOf};
 ghost use Rattle.shape.specs.Refuse.{Blocked, Started};
-ghost use Rattle.shape.specs.State.{mem};
+ghost use Rattle.shape.specs.Shape.{isTree};
+ghost use Rattle.shape.specs.State.{mem, freeOf};
 ghost use Rattle.small.specs.Small as spec;
 use shape::Got;
 
@@ -78,7 +81,40 @@ fn toggle(h: usize, rows: &mut [u64], frame: usize, order: usize, expected: bool
     )
 }
 
-// The first block of the start row's tree, from its huge frame on, wrapping by a mask: no visit waits for the one before it.
+// The entry that a get from entry x on visits after j others, wrapping in the tree by a mask: none waits for the one before it.
+fn entry_at(t: usize, x: usize, j: usize) -> usize
+    requires { ⌜ (isTree t ≡ true) × (x < 1048576) × (j ≤ 512) ⌝ }
+    ensures { λ r. ⌜ r ≡ spec.entryAt t x j ⌝ }
+{
+    let child = x & (t - 1);
+    x - child + ((child + j) & (t - 1))
+}
+
+// Whether an entry counts at least so many free frames. With 1 added the mark wraps to 0, so that one test serves it too.
+fn counts(entry: u16, size: u16) -> bool
+    requires { ⌜ 0 < size ⌝ }
+    ensures { λ r. ⌜ r ≡ leb size (freeOf entry) ⌝ }
+{
+    size < std::num::wrapping_add_u16(entry, 1)
+}
+
+// The first visit, from the one after j others on, whose entry may have a block: T where there is none.
+fn next(entries: &[u16], t: usize, x: usize, order: usize, j: usize) -> usize
+    requires { ⌜ (isTree t ≡ true) × (x < 1048576) × ((x / t + 1) * t ≤ length (now entries)) × (order < 16) × (j ≤ t) ⌝ }
+    ensures { λ r. ⌜ r ≡ first (λ i. spec.eligible (now (entries .entry)) order (spec.entryAt t x i)) (t - j) j ⌝ }
+{
+    let size = 1u16 << order;
+    let mut i = j;
+    while i < t {
+        if counts(entries[entry_at(t, x, i)], size) {
+            return i;
+        }
+        i += 1;
+    }
+    t
+}
+
+// The first block of the start row's tree, from its huge frame on.
 pub fn get(
     h: usize,
     n: usize,
@@ -91,34 +127,34 @@ pub fn get(
     requires { ⌜ (Huge h) × (order < h) × Started h n t (length (now rows)) (length (now entries)) row order ⌝ }
     ensures { λ r. ⌜ out r (mem (now (rows .exit)) (now (entries .exit))) ≡ spec.getSmall h n t (mem (now (rows .entry)) (now (entries .entry))) row order ⌝ }
 {
-    let k = shape::tree_log(t);
-    let mut x = shape::row_huge(h, row);
-    let first = shape::tree_huge(k, shape::huge_tree(k, x));
-    let child = shape::huge_child(k, x);
+    let start = shape::row_huge(h, row);
     let mut j = 0;
     while j < t {
-        let seen = look(h, n, rows, entries, row, order, x);
-        match seen {
-            Visit::Pass => {}
-            Visit::Damage => {
-                return Got {
-                    code: 8,
-                    frame: 0,
-                    probes: j + 1,
-                };
+        j = next(entries, t, start, order, j);
+        if j < t {
+            let x = entry_at(t, start, j);
+            let seen = look(h, n, rows, entries, row, order, x);
+            match seen {
+                Visit::Pass => {}
+                Visit::Damage => {
+                    return Got {
+                        code: 8,
+                        frame: 0,
+                        probes: j + 1,
+                    };
+                }
+                Visit::Place(frame) => {
+                    bits::write_block(rows, frame, order, true);
+                    entries[x] = entries[x] - (1u16 << order);
+                    return Got {
+                        code: 0,
+                        frame: frame,
+                        probes: j + 1,
+                    };
+                }
             }
-            Visit::Place(frame) => {
-                bits::write_block(rows, frame, order, true);
-                entries[x] = entries[x] - (1u16 << order);
-                return Got {
-                    code: 0,
-                    frame: frame,
-                    probes: j + 1,
-                };
-            }
+            j += 1;
         }
-        j += 1;
-        x = first + ((child + j) & (t - 1));
     }
     Got {
         code: 7,

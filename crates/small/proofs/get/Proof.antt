@@ -1,125 +1,124 @@
--- `small::get` meets its contract. The loop's invariant: the memory is as lent, no visit before the one after j others ends the get, and x is its entry.
+-- `small::get` meets its contract. The loop's invariant: the memory is as lent, and no visit before the one after j others ends the get.
 -- The measure is what is left of the tree. Assumes nothing.
 use mathlib.Core.Path.{_≡_, refl, sym, ap, ap₂, _∙_}
-use Prim.Native.Nat.{ℕ, _+_, _-_, _*_, _/_, _%_, _^_, _≤_, _<_}
-use native.Mathlib.Nat.{mod-lt}
+use mathlib.Core.List.{List}
+use Prim.Native.Nat.{ℕ, _+_, _-_, _*_, _/_, _^_, _≤_, _<_}
 use native.Mathlib.Omega.{arith}
-use lib.Bits.{bitAnd}
 use lib.ListN.{length, length-set}
-use lib.Pow.{pow-pos}
 use borrow.Author.Needs.{needs}
-use borrow.Author.Tests.{ltb-true}
+use Rattle.base.specs.Code.{out}
 use Rattle.base.specs.Size.{rowsOf}
-use Rattle.base.proofs.Walks.{FirstAt, first-start, first-more}
+use Rattle.base.proofs.Walks.{FirstAt, first-start, first-more, first-from}
 use Rattle.base.proofs.Sizes.{huge-high}
 use Rattle.base.proofs.Masks.{shl-one}
-use Rattle.shape.specs.Shape.{treeLog}
-use Rattle.shape.specs.State.{mem}
-use Rattle.shape.proofs.Laws.{tree-pow, tree-pos, tree-high}
-use Rattle.shape.proofs.Lent.{present-rows}
+use Rattle.shape.specs.State.{mem, got}
+use Rattle.shape.proofs.Laws.{tree-high}
+use Rattle.shape.proofs.Lent.{present-rows, start-tree}
 use Rattle.small.specs.declared.Visit.the-variants.{Damage}
 use Rattle.small.specs.Small.{visit, stops, entryAt}
 use Rattle.small.proofs.Below.{block-asked}
 use Rattle.small.proofs.Visits.{Free, visit-free}
-use Rattle.small.proofs.Gets.{entry-start, entry-masked, start-huge, start-first, first-low, entry-lent, entry-low, found-block, stopsAt, get-ended, get-none, get-taken}
+use Rattle.small.proofs.Gets.{start-huge, start-low, entry-lent, entry-low, found-block, stopsAt, get-ended, get-none, get-taken}
+use Rattle.small.proofs.Skips.{skipped}
 use Rattle.small.proofs.get.Statement.{statement}
 use Rattle.small.proofs.get.Tie as tie
 
 abbrev Inv-loop : tie.InvT-loop
-Inv-loop h n t rows₀ entries₀ row order k x₀ first child j₀ rows entries x j =
-    (rows ≡ rows₀) × (entries ≡ entries₀) × (x ≡ entryAt t (row / rowsOf h) j) × FirstAt (stopsAt h n t (mem rows₀ entries₀) row order) t j
+Inv-loop h n t rows₀ entries₀ row order start j₀ rows entries j =
+    (rows ≡ rows₀) × (entries ≡ entries₀) × FirstAt (stopsAt h n t (mem rows₀ entries₀) row order) t j
 
 abbrev μ-loop : tie.MeasureT-loop
-μ-loop h n t rows₀ entries₀ row order k x₀ first child j₀ rows entries x j = t - j
-
-tree-log-requires : tie.Need-tree-log-requires Inv-loop μ-loop
-tree-log-requires c κs = c .before .before .pre .2 .sized .tree
+μ-loop h n t rows₀ entries₀ row order start j₀ rows entries j = t - j
 
 row-huge-requires : tie.Need-row-huge-requires Inv-loop μ-loop
 row-huge-requires c κs = search needs
+
+loop-holds : tie.Need-loop-holds Inv-loop μ-loop
+loop-holds c = (refl, refl, first-start _ _)
+
+-- the function's entry, from where its loop begins
+abbrev entry : tie.After-row-huge Inv-loop μ-loop → tie.Start Inv-loop μ-loop
+entry b = b .before .before .before
 
 -- an order below the huge order is a shift of a 16 bit number
 order-low : (s : tie.Start Inv-loop μ-loop) → s .args .order < 16
 order-low s = omega (arith, s .pre .1, huge-high (s .pre .0))
 
--- log2 T is below 10
-log-low : (c : tie.After-tree-log Inv-loop μ-loop) → c .tree-log .result < 10
-log-low c = let t = c .before .before .before .args .t in omega (arith, c .tree-log .ensures, ltb-true (treeLog t) 10 (c .before .before .before .pre .2 .sized .tree))
+-- the huge frame of the start row
+start-is : (b : tie.After-row-huge Inv-loop μ-loop) → b .row-huge .result ≡ entry b .args .row / rowsOf (entry b .args .h)
+start-is b = let s = entry b in b .row-huge .ensures ∙ start-huge (s .pre .0) (s .pre .2)
 
-huge-tree-requires : tie.Need-huge-tree-requires Inv-loop μ-loop
-huge-tree-requires c κs = log-low (c .before)
+near : (b : tie.After-row-huge Inv-loop μ-loop) → b .row-huge .result < 1048576
+near b = omega (arith, start-is b, start-low (entry b .pre .0) (entry b .pre .2))
 
-tree-huge-requires : tie.Need-tree-huge-requires Inv-loop μ-loop
-tree-huge-requires c κs =
-    let s = c .before .before .before .before .before in
-    let e = start-first (s .pre .0) (s .pre .2) (c .before .before .tree-log .ensures) (c .before .row-huge .ensures) (c .huge-tree .ensures) refl in
-    (log-low (c .before .before), omega (arith, e, first-low (s .pre .0) (s .pre .2)))
+next-requires : tie.Need-next-requires Inv-loop μ-loop
+next-requires c κs =
+    let a = c .before .before in
+    let s = entry (a .before) in
+    (s .pre .2 .sized .tree, near (a .before), rw (start-is (a .before), a .loop .inv .1) (start-tree (s .pre .0) (s .pre .2)), order-low s, a .loop .inv .2 .0)
 
-huge-child-requires : tie.Need-huge-child-requires Inv-loop μ-loop
-huge-child-requires c κs = log-low (c .before .before .before)
+-- the turn of the loop that looks for the next visit
+abbrev turn : tie.After-next-arg Inv-loop μ-loop → tie.At-loop Inv-loop μ-loop
+turn k = k .before .before
 
--- the function's entry, from where its loop begins
-abbrev entry : tie.After-huge-child Inv-loop μ-loop → tie.Start Inv-loop μ-loop
-entry c = c .before .before .before .before .before .before .before
+-- that visit is not before this turn's
+forward : (k : tie.After-next Inv-loop μ-loop) → turn (k .before) .loop .j ≤ k .next .result
+forward k = rw (k .next .ensures) (first-from _ _ _)
 
--- T as a power of 2
-log-is : (c : tie.After-huge-child Inv-loop μ-loop) → 2 ^ c .before .before .before .before .tree-log .result ≡ entry c .args .t
-log-is c = ap (λ (k : ℕ). 2 ^ k) (c .before .before .before .before .tree-log .ensures) ∙ tree-pow (entry c .args .t) (entry c .pre .2 .sized .tree)
+-- and none before it ends the get
+at-next : (k : tie.After-next Inv-loop μ-loop) → let s = entry (turn (k .before) .before) .args in
+    FirstAt (stopsAt (s .h) (s .n) (s .t) (mem (s .rows .now) (s .entries .now)) (s .row) (s .order)) (s .t) (k .next .result)
+at-next k = let a = turn (k .before) in skipped _ _ _ _ _ _ _ _ _ (a .loop .inv .2) (rw (a .loop .inv .1, start-is (a .before)) at (k .next .ensures))
 
--- the entry that is visited after j others, as the code makes it
-masked : (c : tie.After-huge-child Inv-loop μ-loop) (j : ℕ) → let a = entry c .args in
-    c .before .tree-huge .result + bitAnd (c .huge-child .result + j) (a .t - 1) ≡ entryAt (a .t) (a .row / rowsOf (a .h)) j
-masked c =
-    let s = entry c in
-    let k = c .before .before .before in
-    let x = k .row-huge .ensures ∙ start-huge (s .pre .0) (s .pre .2) in
-    let first = start-first (s .pre .0) (s .pre .2) (k .before .tree-log .ensures) (k .row-huge .ensures) (c .before .before .huge-tree .ensures) (c .before .tree-huge .ensures) in
-    entry-masked (s .args .t) (s .args .row / rowsOf (s .args .h)) (tree-pos (s .args .t) (s .pre .2 .sized .tree)) _ (log-is c) first (child-is c x)
-  where
-    child-is : (c : tie.After-huge-child Inv-loop μ-loop) → let a = entry c .args in c .before .before .before .row-huge .result ≡ a .row / rowsOf (a .h)
-        → c .huge-child .result ≡ a .row / rowsOf (a .h) % a .t
-    child-is c e = c .huge-child .ensures ∙ ap₂ (λ (x t : ℕ). x % t) e (log-is c)
+-- it is one of a tree's
+next-low : (c : tie.Then1 Inv-loop μ-loop) → c .before .next .result < 512
+next-low c = let s = entry (turn (c .before .before) .before) in omega (arith, c .if1 .taken, tree-high (s .args .t) (s .pre .2 .sized .tree))
 
--- the place of its huge frame in the tree is below T
-child-low : (c : tie.After-huge-child Inv-loop μ-loop) → c .huge-child .result < 512
-child-low c =
-    let s = entry c in
-    let k = c .before .before .before .before .tree-log .result in
-    omega (arith, c .huge-child .ensures, mod-lt (c .before .before .before .row-huge .result) (pow-pos k), log-is c, tree-high (s .args .t) (s .pre .2 .sized .tree))
+entry-at-requires : tie.Need-entry-at-requires Inv-loop μ-loop
+entry-at-requires c κs =
+    let b = turn (c .before .before) .before in
+    (entry b .pre .2 .sized .tree, near b, omega (arith, next-low c))
 
-loop-holds : tie.Need-loop-holds Inv-loop μ-loop
-loop-holds c =
-    let s = entry c in
-    let t = tree-pos (s .args .t) (s .pre .2 .sized .tree) in
-    (refl, refl, c .before .before .before .row-huge .ensures ∙ start-huge (s .pre .0) (s .pre .2) ∙ entry-start (s .args .t) (s .args .row / rowsOf (s .args .h)) t, first-start _ _)
+-- the turn of the loop that visits an entry
+abbrev visiting : tie.Then1 Inv-loop μ-loop → tie.At-loop Inv-loop μ-loop
+visiting c = turn (c .before .before)
 
--- entry x is lent
-entry-read : (a : tie.At-loop Inv-loop μ-loop) → a .loop .x < length (a .loop .entries)
-entry-read a = let s = entry (a .before) in rw (a .loop .inv .1, a .loop .inv .2) (entry-lent (s .pre .0) (s .pre .2) (a .loop .j))
+-- entry x is the one that is visited after j others
+x-is : (e : tie.After-entry-at Inv-loop μ-loop) → let s = entry (visiting (e .before) .before) .args in
+    e .entry-at .result ≡ entryAt (s .t) (s .row / rowsOf (s .h)) (e .before .before .next .result)
+x-is e = rw (start-is (visiting (e .before) .before)) at (e .entry-at .ensures)
+
+-- it is lent
+entry-read : (e : tie.After-entry-at Inv-loop μ-loop) → e .entry-at .result < length (visiting (e .before) .loop .entries)
+entry-read e =
+    let a = visiting (e .before) in
+    let s = entry (a .before) in
+    rw (a .loop .inv .1, x-is e) (entry-lent (s .pre .0) (s .pre .2) (e .before .before .next .result))
 
 -- and far below a word's end
-entry-small : (a : tie.At-loop Inv-loop μ-loop) → a .loop .x < 1048576
-entry-small a = let s = entry (a .before) in rw (a .loop .inv .2) (entry-low (s .pre .0) (s .pre .2) (a .loop .j))
+entry-small : (e : tie.After-entry-at Inv-loop μ-loop) → e .entry-at .result < 1048576
+entry-small e = let s = entry (visiting (e .before) .before) in rw (x-is e) (entry-low (s .pre .0) (s .pre .2) (e .before .before .next .result))
 
 -- the rows of a huge frame that begins below N are lent too
 rows-read : (a : tie.At-loop Inv-loop μ-loop) (x : ℕ) → let s = entry (a .before) .args in
     x * 2 ^ s .h < s .n → (x + 1) * rowsOf (s .h) ≤ length (a .loop .rows)
 rows-read a x l = let s = entry (a .before) in rw (a .loop .inv .0) (present-rows (s .pre .0) (s .pre .2 .sized) x l)
 
--- j counts visits of one tree
-turn-low : (c : tie.In-loop Inv-loop μ-loop) → c .before .loop .j < 512
-turn-low c = let s = entry (c .before .before) in omega (arith, c .loop-test .taken, tree-high (s .args .t) (s .pre .2 .sized .tree))
-
 look-requires : tie.Need-look-requires Inv-loop μ-loop
 look-requires c κs =
-    let a = c .before .before .before in
+    let e = c .before .before in
+    let a = visiting (e .before) in
     let s = entry (a .before) in
-    (s .pre .0, s .pre .1, s .pre .2 .sized .most, entry-read a, entry-small a, rows-read a (a .loop .x))
+    (s .pre .0, s .pre .1, s .pre .2 .sized .most, entry-read e, entry-small e, rows-read a (e .entry-at .result))
 
 -- what the visit answered, of the memory as lent
-seen-is : (c : tie.After-look Inv-loop μ-loop) → let a = c .before .before .before .before in let s = entry (a .before) .args in
-    c .look .result ≡ visit (s .h) (s .n) (mem (s .rows .now) (s .entries .now)) (s .row) (s .order) (a .loop .x)
-seen-is c = let i = c .before .before .before .before .loop .inv in rw (i .0, i .1) at (c .look .ensures)
+seen-is : (c : tie.After-look Inv-loop μ-loop) → let e = c .before .before .before in let s = entry (visiting (e .before) .before) .args in
+    c .look .result ≡ visit (s .h) (s .n) (mem (s .rows .now) (s .entries .now)) (s .row) (s .order) (e .entry-at .result)
+seen-is c =
+    let e = c .before .before .before in
+    let s = entry (visiting (e .before) .before) .args in
+    let i = visiting (e .before) .loop .inv in
+    c .look .ensures ∙ ap₂ (λ (rs es : List ℕ). visit (s .h) (s .n) (mem rs es) (s .row) (s .order) (e .entry-at .result)) (i .0) (i .1)
 
 enum-told : tie.Need-enum-told Inv-loop μ-loop
 enum-told c = search needs
@@ -127,110 +126,107 @@ enum-told c = search needs
 enum-told-2 : tie.Need-enum-told-2 Inv-loop μ-loop
 enum-told-2 c = search needs
 
-add-t21 : tie.Need-add-t21 Inv-loop μ-loop
-add-t21 c = omega (arith, turn-low (c .before .before .before .before .before))
+add-t20 : tie.Need-add-t20 Inv-loop μ-loop
+add-t20 c = omega (arith, next-low (c .before .before .before .before .before .before))
 
 same-length : tie.Need-same-length Inv-loop μ-loop
-same-length c = ap length (c .before .before .before .before .before .before .loop .inv .0)
+same-length c = ap length (visiting (c .before .before .before .before .before .before) .loop .inv .0)
 
 same-length-2 : tie.Need-same-length-2 Inv-loop μ-loop
-same-length-2 c = ap length (c .before .before .before .before .before .before .loop .inv .1)
+same-length-2 c = ap length (visiting (c .before .before .before .before .before .before) .loop .inv .1)
 
 returns : tie.Need-returns Inv-loop μ-loop
 returns c =
     let k = c .before .before in
-    let i = k .before .before .before .before .loop .inv in
-    rw (i .0, i .1) (get-ended _ _ _ _ _ _ _ (i .3) (k .before .before .before .loop-test .taken) Damage (sym (c .enum-told2 .given .1) ∙ rw (i .2) at (seen-is k)) refl)
+    let e = k .before .before .before in
+    let i = visiting (e .before) .loop .inv in
+    ap₂ (λ (rs es : List ℕ). out (got 8 0 (e .before .before .next .result + 1)) (mem rs es)) (i .0) (i .1)
+    ∙ get-ended _ _ _ _ _ _ _ (at-next (e .before .before)) (e .before .if1 .taken) Damage (sym (c .enum-told2 .given .1) ∙ rw (x-is e) at (seen-is k)) refl
 
 enum-known-seen : tie.Need-enum-known-seen Inv-loop μ-loop
 enum-known-seen c = search needs
 
--- the turn of the loop that the block was found in
-abbrev turn : tie.After-seen Inv-loop μ-loop → tie.At-loop Inv-loop μ-loop
-turn c = c .before .before .before .before .before .before
+-- the visit that answered a block
+abbrev place : tie.After-seen Inv-loop μ-loop → tie.After-entry-at Inv-loop μ-loop
+place c = c .before .before .before .before .before
 
--- the block that the visit answered
-found : (c : tie.After-seen Inv-loop μ-loop) → let a = turn c in let s = entry (a .before) .args in
-    Free (s .h) (s .n) (s .rows .now) (s .entries .now) (s .order) (a .loop .x) (c .seen .given .0 .0)
-found c = visit-free (entry (turn c .before) .pre .0) _ _ _ _ _ _ _ (sym (seen-is (c .before .before)) ∙ c .seen .given .1)
+-- and that block
+found : (c : tie.After-seen Inv-loop μ-loop) → let e = place c in let s = entry (visiting (e .before) .before) .args in
+    Free (s .h) (s .n) (s .rows .now) (s .entries .now) (s .order) (e .entry-at .result) (c .seen .given .0 .0)
+found c = visit-free (entry (visiting (place c .before) .before) .pre .0) _ _ _ _ _ _ _ (sym (seen-is (c .before .before)) ∙ c .seen .given .1)
 
 write-block-requires : tie.Need-write-block-requires Inv-loop μ-loop
 write-block-requires c κs =
     let k = c .before .before in
-    let s = entry (turn k .before) in
-    block-asked (s .pre .0) (s .pre .1) (found-block (s .pre .0) (s .pre .2) (found k)) (ap length (turn k .loop .inv .0))
+    let a = visiting (place k .before) in
+    let s = entry (a .before) in
+    block-asked (s .pre .0) (s .pre .1) (found-block (s .pre .0) (s .pre .2) (found k)) (ap length (a .loop .inv .0))
 
 mul-entries : tie.Need-mul-entries Inv-loop μ-loop
-mul-entries c = omega (arith, entry-small (turn (c .before .before .before .before .before)))
+mul-entries c = omega (arith, entry-small (place (c .before .before .before .before .before)))
 
 slice-read-entries : tie.Need-slice-read-entries Inv-loop μ-loop
-slice-read-entries c = entry-read (turn (c .before .before .before .before .before .before))
+slice-read-entries c = entry-read (place (c .before .before .before .before .before .before))
 
 cast-entries : tie.Need-cast-entries Inv-loop μ-loop
-cast-entries c = omega (arith, order-low (entry (turn (c .before .before .before .before .before .before) .before)))
+cast-entries c = omega (arith, order-low (entry (visiting (place (c .before .before .before .before .before .before) .before) .before)))
 
 shl-entries : tie.Need-shl-entries Inv-loop μ-loop
-shl-entries c = omega (arith, order-low (entry (turn (c .before .before .before .before .before .before) .before)))
+shl-entries c = order-low (entry (visiting (place (c .before .before .before .before .before .before) .before) .before))
 
 sub-entries : tie.Need-sub-entries Inv-loop μ-loop
 sub-entries c =
     let k = c .before .before .before .before .before .before in
-    let s = entry (turn k .before) in
-    rw (turn k .loop .inv .1, shl-one 16 (s .args .order) (order-low s)) (found k .counts)
+    let a = visiting (place k .before) in
+    let s = entry (a .before) in
+    rw (a .loop .inv .1, shl-one 16 (s .args .order) (order-low s)) (found k .counts)
 
 mul-entries-2 : tie.Need-mul-entries-2 Inv-loop μ-loop
-mul-entries-2 c = omega (arith, entry-small (turn (c .before .before .before .before .before .before)))
+mul-entries-2 c = omega (arith, entry-small (place (c .before .before .before .before .before .before)))
 
 slice-write-entries : tie.Need-slice-write-entries Inv-loop μ-loop
-slice-write-entries c = entry-read (turn (c .before .before .before .before .before .before))
+slice-write-entries c = entry-read (place (c .before .before .before .before .before .before))
 
-add-t25 : tie.Need-add-t25 Inv-loop μ-loop
-add-t25 c = omega (arith, turn-low (c .before .before .before .before .before .before .before .before .before .before .before))
+add-t24 : tie.Need-add-t24 Inv-loop μ-loop
+add-t24 c = omega (arith, next-low (place (c .before .before .before .before .before .before) .before))
 
 same-length-3 : tie.Need-same-length-3 Inv-loop μ-loop
-same-length-3 c = c .before .before .before .write-block .kept .0 ∙ ap length (turn (c .before .before .before .before .before .before) .loop .inv .0)
+same-length-3 c = c .before .before .before .write-block .kept .0 ∙ ap length (visiting (place (c .before .before .before .before .before .before) .before) .loop .inv .0)
 
 same-length-4 : tie.Need-same-length-4 Inv-loop μ-loop
-same-length-4 c = simp length-set (ap length (turn (c .before .before .before .before .before .before) .loop .inv .1))
+same-length-4 c = simp length-set (ap length (visiting (place (c .before .before .before .before .before .before) .before) .loop .inv .1))
 
 returns-2 : tie.Need-returns-2 Inv-loop μ-loop
 returns-2 c =
     let k = c .before .before .before .before .before .before in
-    let a = turn k in
+    let e = place k in
+    let a = visiting (e .before) in
     let s = entry (a .before) in
     let i = a .loop .inv in
     rw (i .1)
-    (get-taken _ _ _ _ _ _ _ _ (i .3) (k .before .before .before .before .before .loop-test .taken) _ (i .2) (sym (k .seen .given .1) ∙ seen-is (k .before .before)) (found k)
+    (get-taken _ _ _ _ _ _ _ _ (at-next (e .before .before)) (e .before .if1 .taken) _ (x-is e) (sym (k .seen .given .1) ∙ seen-is (k .before .before)) (found k)
     (rw (i .0) at (c .before .before .before .write-block .ensures)) (shl-one 16 (s .args .order) (order-low s)))
 
 add-j : tie.Need-add-j Inv-loop μ-loop
-add-j c = omega (arith, turn-low (c .before .before .before .before .before))
-
-add-x : tie.Need-add-x Inv-loop μ-loop
-add-x c = omega (arith, turn-low (c .before .before .before .before .before), child-low (c .before .before .before .before .before .before .before))
-
-sub-x : tie.Need-sub-x Inv-loop μ-loop
-sub-x c = let s = entry (c .before .before .before .before .before .before .before) in tree-pos (s .args .t) (s .pre .2 .sized .tree)
-
-add-x-2 : tie.Need-add-x-2 Inv-loop μ-loop
-add-x-2 c =
-    let a = c .before .before .before .before .before .before in
-    let s = entry (a .before) in
-    omega (arith, masked (a .before) (a .loop .j + 1), entry-low (s .pre .0) (s .pre .2) (a .loop .j + 1))
+add-j c = omega (arith, next-low (c .before .before .before .before .before .before))
 
 loop-less : tie.Need-loop-less Inv-loop μ-loop
-loop-less c = search needs
+loop-less c =
+    let e = c .before .before .before .before .before in
+    omega (arith, forward (e .before .before), e .before .if1 .taken)
 
 loop-again : tie.Need-loop-again Inv-loop μ-loop
 loop-again c =
     let k = c .before .before in
-    let a = k .before .before .before .before in
-    let i = a .loop .inv in (
-      i .0,
-      i .1,
-      masked (a .before) (a .loop .j + 1),
-      first-more _ _ _ (i .3) (k .before .before .before .loop-test .taken) (ap stops (sym (rw (i .2) at (seen-is k)) ∙ c .enum-told .given .1)),
-    )
+    let e = k .before .before .before in
+    let i = visiting (e .before) .loop .inv in
+    (i .0, i .1, first-more _ _ _ (at-next (e .before .before)) (e .before .if1 .taken) (ap stops (sym (rw (x-is e) at (seen-is k)) ∙ c .enum-told .given .1)))
+
+loop-less-2 : tie.Need-loop-less-2 Inv-loop μ-loop
+loop-less-2 c = omega (arith, c .if1 .left, c .before .before .before .loop-test .taken)
+
+loop-again-2 : tie.Need-loop-again-2 Inv-loop μ-loop
+loop-again-2 c = let i = turn (c .before .before) .loop .inv in (i .0, i .1, at-next (c .before))
 
 same-length-5 : tie.Need-same-length-5 Inv-loop μ-loop
 same-length-5 c = ap length (c .before .loop .inv .0)
@@ -239,7 +235,7 @@ same-length-6 : tie.Need-same-length-6 Inv-loop μ-loop
 same-length-6 c = ap length (c .before .loop .inv .1)
 
 returns-3 : tie.Need-returns-3 Inv-loop μ-loop
-returns-3 c = let i = c .before .loop .inv in rw (i .0, i .1) (get-none _ _ _ _ _ _ _ (i .3) (c .loop-test .left))
+returns-3 c = let i = c .before .loop .inv in rw (i .0, i .1) (get-none _ _ _ _ _ _ _ (i .2) (c .loop-test .left))
 
 pub get-spec : {M : Type 1} → statement M
 get-spec =
@@ -247,16 +243,14 @@ get-spec =
     (tie.spec
     Inv-loop
     μ-loop
-    tree-log-requires
     row-huge-requires
-    huge-tree-requires
-    tree-huge-requires
-    huge-child-requires
     loop-holds
+    next-requires
+    entry-at-requires
     look-requires
     enum-told
     enum-told-2
-    add-t21
+    add-t20
     same-length
     same-length-2
     returns
@@ -269,16 +263,15 @@ get-spec =
     sub-entries
     mul-entries-2
     slice-write-entries
-    add-t25
+    add-t24
     same-length-3
     same-length-4
     returns-2
     add-j
-    add-x
-    sub-x
-    add-x-2
     loop-less
     loop-again
+    loop-less-2
+    loop-again-2
     same-length-5
     same-length-6
     returns-3)
