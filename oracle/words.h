@@ -1,10 +1,12 @@
-/* The numbers that calls take and hand back. */
+/* The calls as C has them, and short names for the numbers that they take and hand back. */
 #pragma once
 
-typedef __UINT64_TYPE__ word;
-typedef __UINT32_TYPE__ number;
-typedef __UINT16_TYPE__ entry;
-typedef __SIZE_TYPE__ size;
+#include "../include/ravelbeam.h"
+
+typedef uint64_t word;
+typedef uint32_t number;
+typedef uint16_t entry;
+typedef size_t size;
 
 /* A lent number starts as this, so that one which is not written is seen. */
 #define UNWRITTEN 0x5a5a5a5a5a5a5a5aull

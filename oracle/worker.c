@@ -7,15 +7,6 @@
 
 #include "pipe.h"
 
-number rb_first_zeros_aligned(word v, size order, size *place, word *row);
-number rb_bitfield_set(word *rows, size rows_len, size start, size end, number value);
-number rb_bitfield_toggle(word *rows, size rows_len, size place, size order, number expected);
-number rb_bitfield_is_zero(const word *rows, size rows_len, size place, size order, number *yes);
-number rb_bitfield_first_zeros(const word *rows, size rows_len, size start_row, size order, size *place);
-number rb_bitfield_set_first_zeros(word *rows, size rows_len, size start_row, size order, size *place);
-number rb_bitfield_fill(word *rows, size rows_len, number value);
-number rb_bitfield_count_zeros(const word *rows, size rows_len, size *zeros);
-
 enum { SEARCH, STATE, SET, TOGGLE, IS_ZERO, FIRST_ZEROS, SET_FIRST_ZEROS, FILL, COUNT_ZEROS };
 
 /* Up to sixteen lent rows, and one word on either side that no call may touch. */

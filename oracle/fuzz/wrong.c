@@ -14,16 +14,13 @@ enum {
     OTHER_TREE
 };
 
-number __real_rb_get(size n, size t, word *rows, size rows_len, entry *entries, size entries_len, size row, size order,
-                     size *frame, size *probes);
-number __real_rb_put(size n, size t, word *rows, size rows_len, entry *entries, size entries_len, size frame,
-                     size order);
-number __real_rb_is_free(size n, size t, const word *rows, size rows_len, const entry *entries, size entries_len,
-                         size frame, size order, number *yes);
-number __real_rb_recover(size n, size t, word *rows, size rows_len, entry *entries, size entries_len,
-                         size *entries_changed, size *bitfields_changed);
-number __real_rb_room(size n, size t, const word *rows, size rows_len, const entry *entries, size entries_len,
-                      size frame, size *counts);
+/* What each is before, and what stands before it, are as the header has them. */
+#define WRAPPED(call) __typeof__(call) __real_##call, __wrap_##call
+WRAPPED(rb_get);
+WRAPPED(rb_put);
+WRAPPED(rb_is_free);
+WRAPPED(rb_recover);
+WRAPPED(rb_room);
 
 /* The frame after the one that was taken; it writes though its order is too high; or where the tree has no block it
  * goes on to the next. */

@@ -1,28 +1,6 @@
-/* The lower level's calls as libcapi.a has them, a slice as its pointer and its length; and all of them as one. */
+/* The lower level's calls as one, with all that they are lent. */
 
 #include "../words.h"
-
-number rb_free_all(size n, size t, word *rows, size rows_len, entry *entries, size entries_len);
-number rb_reserve_all(size n, size t, word *rows, size rows_len, entry *entries, size entries_len);
-number rb_get(size n, size t, word *rows, size rows_len, entry *entries, size entries_len, size row, size order,
-              size *frame, size *probes);
-number rb_get_at(size n, size t, word *rows, size rows_len, entry *entries, size entries_len, size frame, size order,
-                 size *got, size *probes);
-number rb_put(size n, size t, word *rows, size rows_len, entry *entries, size entries_len, size frame, size order);
-number rb_is_free(size n, size t, const word *rows, size rows_len, const entry *entries, size entries_len, size frame,
-                  size order, number *yes);
-number rb_stats(size n, size t, const word *rows, size rows_len, const entry *entries, size entries_len,
-                size *free_frames, size *free_huge, size *free_trees);
-number rb_stats_at(size n, size t, const word *rows, size rows_len, const entry *entries, size entries_len, size frame,
-                   size order, size *free_frames, size *free_huge, size *free_trees);
-number rb_audit(size n, size t, const word *rows, size rows_len, const entry *entries, size entries_len, size *huge,
-                number *reason);
-number rb_recover(size n, size t, word *rows, size rows_len, entry *entries, size entries_len, size *entries_changed,
-                  size *bitfields_changed);
-number rb_room(size n, size t, const word *rows, size rows_len, const entry *entries, size entries_len, size frame,
-               size *counts);
-number rb_tree_run(size n, size t, const word *rows, size rows_len, const entry *entries, size entries_len, size frame,
-                   size *offset, size *length);
 
 enum { FREE_ALL = 1, RESERVE_ALL, GET, GET_AT, PUT, IS_FREE, STATS, STATS_AT, AUDIT, RECOVER, TREE_ROOM, TREE_RUN };
 /* The most numbers that a call is lent. */
