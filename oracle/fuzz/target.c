@@ -6,6 +6,7 @@
  * a counter that libFuzzer takes for coverage. */
 
 #include <stdint.h>
+#include <stdlib.h>
 #include <string.h>
 
 #include "../lower/calls.h"
@@ -39,6 +40,10 @@ static int borrows;
 __attribute__((section("__libfuzzer_extra_counters"))) static struct {
     uint8_t orders[13][9][20][8], trees[10][13][9];
 } counters;
+
+/* For `oracle/fuzz/run summary`: how often each call had each code, how many calls the Rust answered too, and how many
+ * runs gave back what they had borrowed. */
+static word made[13][9], answered, returned;
 
 /* ---- Failing. */
 
@@ -364,6 +369,7 @@ static void check_rust(const struct call *it, number code, const size *numbers, 
     demand(make_rust(it, trial.rows + GUARD, trial.entries + GUARD, theirs) == code, "the Rust answers another code");
     demand(!memcmp(theirs, numbers, count * sizeof *theirs), "the Rust answers other numbers");
     demand(same(&trial, &now), "the Rust leaves other rows or entries");
+    answered++;
 }
 
 /* Whether all is as before but what a call may write: the needed rows and entries, of one tree for gets and puts. */
@@ -436,12 +442,14 @@ static number check(struct call it)
     word more = count == 0 ? 0 : it.what == AUDIT ? numbers[1] : (numbers[0] > 0) + 2 * (get && numbers[1] > 1);
     counters.orders[it.what][code][it.order < 20 ? it.order : 19][more + 4 * (it.what != AUDIT && clean)]++;
     counters.trees[__builtin_ctzll(t)][it.what][code]++;
+    made[it.what][code]++;
     return code;
 }
 
 /* Gives back all that is in the ledger, in the largest blocks that are accepted: then all is as at first. */
 static void give_back(void)
 {
+    returned += borrows && held > 0;
     while (borrows && held > 0) {
         struct range range = ledger[held - 1];
         word order = top_order(t);
@@ -628,10 +636,31 @@ static struct call odd(struct call it)
     return it;
 }
 
+static void summary(void)
+{
+    static const char *const names[] = { "",      "free_all", "reserve_all", "get",     "get_at", "put",     "is_free",
+                                         "stats", "stats_at", "audit",       "recover", "room",   "tree_run" };
+    word calls = 0;
+
+    for (word what = 1; what <= TREE_RUN; what++) {
+        printf("%-11s", names[what]);
+        for (word code = 0; code < 9; code++) {
+            if (codes[what] >> code & 1)
+                printf("  %lu: %lu", code, made[what][code]);
+            calls += made[what][code];
+        }
+        printf("\n");
+    }
+    printf("%lu calls, %lu of them answered by the Rust too; %lu runs gave back what they had borrowed\n", calls,
+           answered, returned);
+}
+
 int LLVMFuzzerInitialize(int *argc, char ***argv)
 {
     (void)argc, (void)argv;
     load_rust();
+    if (getenv("SUMMARY"))
+        atexit(summary);
     return 0;
 }
 
