@@ -1,6 +1,6 @@
 -- The statistics by the orders and the tree sizes, in the code's words: a law for each answer. Assumes nothing.
 use mathlib.Core.Path.{_≡_, refl, sym, _∙_}
-use mathlib.Core.Bool.{Bool, true, false}
+use mathlib.Core.Bool.{Bool, true, false, _&&_}
 use mathlib.Core.List.{List}
 use Prim.Native.Nat.{ℕ, _+_, _*_, _/_, _^_}
 use native.Mathlib.Nat.{one-mul, mul-one}
@@ -51,6 +51,11 @@ module _ {h n t rl el log needed free huge v : ℕ} (s : Sized h n t rl el) (log
       rw (free-is, huge-is, v-is, needed-is s log-is all-is, one, one-mul (ceil n (2 ^ h * 1)), tree-of-one H es (ceil n (2 ^ h * 1)))
 
 -- ---- at a frame
+
+-- a held frame is not free, whatever the count
+pub held-none : (b : Bool) → _≡_ {A = ℕ} (pick (b && false) 1 0) 0
+held-none true = refl
+held-none false = refl
 
 module _ (h t : ℕ) (m : Mem) (f o : ℕ) where
   pub by-frame : {r : Stats} → o ≡ 0 → r ≡ atFrame h m f → r ≡ atOrder h t m f o

@@ -142,13 +142,16 @@ fn is_clear(rows: &[u64], frame: usize) -> bool
     (row >> shape::frame_bit(frame)) % 2 == 0
 }
 
-// At a frame alone.
+// At a frame alone. Count and bit are both read before either is tested, so that the compiler needs no branch: one on a frame's
+// state would be foreseen wrongly as often as not.
 fn at_frame(h: usize, rows: &[u64], entries: &[u16], frame: usize) -> Stats
     requires { ⌜ (Huge h) × (hugeOf h frame < length (now entries)) × (rowOf frame < length (now rows)) ⌝ }
     ensures { λ r. ⌜ r ≡ spec.atFrame h (mem (now (rows .entry)) (now (entries .entry))) frame ⌝ }
 {
+    let count = free_of(h, entries, frame);
+    let clear = is_clear(rows, frame);
     let mut free: usize = 0;
-    if free_of(h, entries, frame) > 0 && is_clear(rows, frame) {
+    if clear && count > 0 {
         free = 1;
     }
     Stats {
