@@ -3,6 +3,9 @@
 //!
 //! A pass makes some thousands of calls. All rows are restored before each, outside of its time.
 
+#[allow(dead_code)]
+#[path = "../rust/ravelbeam/src/calls.rs"]
+mod calls;
 #[path = "../oracle/library.rs"]
 mod library;
 #[path = "../oracle/rust.rs"]
@@ -12,6 +15,7 @@ mod turns;
 use std::cell::RefCell;
 use std::hint::black_box;
 
+use calls::*;
 use rust::Rust;
 
 /// The eight rows of one huge frame.
@@ -20,35 +24,6 @@ type Rows = [u64; 8];
 const STATES: usize = 256;
 /// How often a pass goes through all states: a search has that many blocks to find in each.
 const TURNS: usize = 4;
-
-unsafe extern "C" {
-    fn rb_first_zeros_aligned(v: u64, order: usize, place: &mut usize, row: &mut u64) -> u32;
-    fn rb_bitfield_set(rows: *mut u64, rows_len: usize, start: usize, end: usize, value: u32) -> u32;
-    fn rb_bitfield_toggle(rows: *mut u64, rows_len: usize, place: usize, order: usize, expected: u32) -> u32;
-    fn rb_bitfield_is_zero(
-        rows: *const u64,
-        rows_len: usize,
-        place: usize,
-        order: usize,
-        yes: &mut u32,
-    ) -> u32;
-    fn rb_bitfield_first_zeros(
-        rows: *const u64,
-        rows_len: usize,
-        start_row: usize,
-        order: usize,
-        place: &mut usize,
-    ) -> u32;
-    fn rb_bitfield_set_first_zeros(
-        rows: *mut u64,
-        rows_len: usize,
-        start_row: usize,
-        order: usize,
-        place: &mut usize,
-    ) -> u32;
-    fn rb_bitfield_fill(rows: *mut u64, rows_len: usize, value: u32) -> u32;
-    fn rb_bitfield_count_zeros(rows: *const u64, rows_len: usize, zeros: &mut usize) -> u32;
-}
 
 /// Our calls as pointers, as the Rust's are.
 struct Ours {

@@ -36,6 +36,8 @@
 #![deny(unsafe_code)]
 
 pub mod bitfield;
+#[allow(unsafe_code)]
+mod calls;
 mod error;
 #[allow(unsafe_code)]
 mod ffi;
