@@ -6,17 +6,23 @@
 #[allow(dead_code)]
 #[path = "../rust/ravelbeam/src/calls.rs"]
 mod calls;
-#[path = "../oracle/library.rs"]
-mod library;
-#[path = "../oracle/rust.rs"]
+mod rows;
+#[path = "../oracle/bitfield/rust.rs"]
 mod rust;
+#[allow(dead_code)]
+#[path = "../oracle/shared"]
+mod shared {
+    pub mod library;
+}
 mod turns;
 
 use std::cell::RefCell;
 use std::hint::black_box;
 
 use calls::*;
+use rows::{Random, blocks, crowded};
 use rust::Rust;
+use shared::library::Library;
 
 /// The eight rows of one huge frame.
 type Rows = [u64; 8];
@@ -25,7 +31,7 @@ const STATES: usize = 256;
 /// How often a pass goes through all states: a search has that many blocks to find in each.
 const TURNS: usize = 4;
 
-/// Our calls as pointers, as the Rust's are.
+/// Our calls as pointers, as the Rust's are. A type that is not the declaration's does not compile.
 struct Ours {
     first_zeros_aligned: unsafe extern "C" fn(u64, usize, &mut usize, &mut u64) -> u32,
     set: unsafe extern "C" fn(*mut u64, usize, usize, usize, u32) -> u32,
@@ -48,34 +54,9 @@ static OURS: Ours = Ours {
     count_zeros: rb_bitfield_count_zeros,
 };
 
-/// xorshift64.
-struct Random(u64);
-
-impl Random {
-    fn word(&mut self) -> u64 {
-        self.0 ^= self.0 << 13;
-        self.0 ^= self.0 >> 7;
-        self.0 ^= self.0 << 17;
-        self.0
-    }
-
-    /// A row of which one bit in sixteen is clear.
-    fn crowded(&mut self) -> u64 {
-        (0..3).fold(self.word(), |row, _| row | self.word())
-    }
-
-    /// A row of which every other block, by chance, is clear.
-    fn blocks(&mut self, order: usize) -> u64 {
-        let size = 1 << order;
-        (0..64).step_by(size).fold(self.crowded(), |row, place| {
-            let block = u64::MAX >> (64 - size) << place;
-            if self.word() & 1 == 0 { row & !block } else { row }
-        })
-    }
-
-    fn states(&mut self, mut rows: impl FnMut(&mut Random) -> Rows) -> Vec<Rows> {
-        (0..STATES).map(|_| rows(self)).collect()
-    }
+/// The states of a line, row by row.
+fn states(mut row: impl FnMut() -> u64) -> Vec<Rows> {
+    (0..STATES).map(|_| [(); 8].map(|()| row())).collect()
 }
 
 /// A pass over a copy of the states, each by its number.
@@ -112,16 +93,16 @@ const NONE: Option<fn(usize, &mut Rows)> = None;
 
 fn main() {
     let library = std::env::args().nth(1).expect("the Rust's library");
-    let rust = &Rust::load(&library);
+    let rust = &Rust::of(&Library::load(&library));
     let ours = black_box(&OURS);
-    let mut random = Random(0x9e37_79b9_7f4a_7c15);
-    let half = random.states(|random| [(); 8].map(|()| random.word()));
-    let crowded = random.states(|random| [(); 8].map(|()| random.crowded()));
+    let mut random = Random(1);
+    let half = states(|| random.word());
+    let crowded = states(|| crowded(&mut random));
 
     for order in 0..7 {
-        let blocks = random.states(|random| [(); 8].map(|()| random.blocks(order)));
+        let halved = states(|| blocks(order as u64, &mut random));
         for (kind, states) in
-            [("half full", &half), ("half of the blocks clear", &blocks), ("crowded", &crowded)]
+            [("half full", &half), ("half of the blocks clear", &halved), ("crowded", &crowded)]
         {
             line(
                 ["first_zeros_aligned", &order.to_string(), kind],
@@ -145,14 +126,9 @@ fn main() {
 
     // Every state has a start row of its own; in the last kind of order 0, all rows but the one before it are
     // full.
-    let mut number = 0;
-    let last = random.states(|random| {
-        number += 1;
-        let mut rows = [u64::MAX; 8];
-        rows[(number + 6) % 8] = random.word();
-        rows
-    });
-    let [bytes, words] = [3, 6].map(|order| random.states(|random| [(); 8].map(|()| random.blocks(order))));
+    let mut last = vec![[u64::MAX; 8]; STATES];
+    last.iter_mut().enumerate().for_each(|(i, rows)| rows[(i + 7) % 8] = random.word());
+    let [bytes, words] = [3, 6].map(|order| states(|| blocks(order, &mut random)));
     let clear = vec![[0; 8]; STATES];
     for (order, kind, states) in [
         (0, "half full", &half),

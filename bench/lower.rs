@@ -1,21 +1,18 @@
 //! Times our lower level's gets and puts, and what is asked of one block, against the Rust's; sides.rs says
 //! what is called and turns.rs how it is timed. Run by bench/run, as: lower LIBRARY..
 
-#[path = "../oracle/library.rs"]
-mod library;
-// Not all of its numbers are of use here.
+// Not all of its rows are of use here.
 #[allow(dead_code)]
-#[path = "../oracle/random.rs"]
-mod random;
+mod rows;
 // Nor all of its calls.
 #[allow(dead_code)]
 mod sides;
 mod state;
 mod turns;
 
-use random::Random;
+use rows::{Random, crowded};
 use sides::{Kept, Ours, Rust, line};
-use state::{MARK, State};
+use state::{HUGE_FRAMES, HUGE_ORDER, HUGE_ROWS, MARK, State};
 
 const TREES: usize = 16;
 /// Calls in a pass, each with a start row, a frame or a block of its own.
@@ -140,7 +137,7 @@ fn of_rows(t: usize, row: impl FnMut() -> u64) -> State {
 fn one_free(t: usize, random: &mut Random) -> State {
     let mut state = of_rows(t, || u64::MAX);
     for huge in 0..TREES * t {
-        state.rows[8 * huge + random.below(8) as usize] ^= 1 << random.below(64);
+        state.rows[HUGE_ROWS * huge + random.below(HUGE_ROWS as u64) as usize] ^= 1 << random.below(64);
     }
     state.count();
     state
@@ -150,7 +147,7 @@ fn one_free(t: usize, random: &mut Random) -> State {
 /// from any.
 fn crowded_tree(rust: &Rust, random: &mut Random) {
     let state = one_free(rust.t, random);
-    let tree_rows = 8 * rust.t as u64;
+    let tree_rows = (HUGE_ROWS * rust.t) as u64;
     for (together, name) in [(1, "get, put"), (RUN, "32 gets, 32 puts")] {
         for (kept, kind) in [(true, "one in 512 free, rows kept"), (false, "one in 512 free, any rows")] {
             let mut places = Vec::new();
@@ -174,10 +171,10 @@ fn blocks(rust: &Rust, half: &State, random: &mut Random) {
         (6, "held singly", &singly),
         (7, "held singly", &singly),
         (0, "held whole", &whole),
-        (9, "held whole", &whole),
+        (HUGE_ORDER, "held whole", &whole),
     ] {
         // Of a huge frame held whole the first put holds the others singly, so each is put from once.
-        let size = if state == &whole { 512 } else { 1 << order };
+        let size = if state == &whole { HUGE_FRAMES } else { 1 << order };
         let mut frames: Vec<usize> = (0..state.n).step_by(size).collect();
         for i in 1..frames.len() {
             frames.swap(i, random.below(i as u64 + 1) as usize);
@@ -214,7 +211,7 @@ fn blocks(rust: &Rust, half: &State, random: &mut Random) {
 }
 
 fn orders(t: usize) -> [usize; 6] {
-    [0, 3, 6, 7, 9, 9 + t.ilog2() as usize]
+    [0, 3, 6, 7, HUGE_ORDER, HUGE_ORDER + t.ilog2() as usize]
 }
 
 fn any_frames(state: &State, order: usize, random: &mut Random) -> Vec<usize> {
@@ -227,8 +224,7 @@ fn main() {
         let rust = Rust::load(&path);
         let t = rust.t;
         let fresh = State::fresh(t, TREES);
-        // Of a crowded state one frame in sixteen is free.
-        let crowded = of_rows(t, || (0..3).fold(random.word(), |row, _| row | random.word()));
+        let crowded = of_rows(t, || crowded(&mut random));
         let half = State::half(t, TREES, &mut random);
         for (kind, state) in [("fresh", &fresh), ("half full", &half), ("crowded", &crowded)] {
             for order in orders(t) {

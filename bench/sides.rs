@@ -1,31 +1,34 @@
 //! The two sides of the lower level in one process, each behind a C call through a pointer, on the same state.
 //! Ours has it flat; the Rust has it in its own layout, where it stays.
 
+#[path = "../rust/ravelbeam/src/calls.rs"]
+mod calls;
+#[path = "../oracle/shared/library.rs"]
+mod library;
+
 use std::fmt::Debug;
 use std::hint::black_box;
 
-use crate::library::Library;
 use crate::state::State;
 use crate::turns;
+use calls::*;
+use library::Library;
 
-/// Declares our calls, each by its name here, its name in C and what it takes after N, T, rows and entries.
+/// Makes pointers to our calls, as the Rust's are: each by its name here, its declared name, and what it takes,
+/// whether rows and entries are lent as mut or const and what comes after them. Rust can't name the type of a
+/// declared function; a type that is not the declaration's does not compile.
 macro_rules! ours {
-    ($($call:ident = $name:ident($($word:ident: $kind:ty),*);)*) => {
-        unsafe extern "C" {
-            $(fn $name(
-                n: usize,
-                t: usize,
-                rows: *mut u64,
-                rows_len: usize,
-                entries: *mut u16,
-                entries_len: usize,
-                $($word: $kind),*
-            ) -> u32;)*
-        }
-
-        /// Our calls as pointers, as the Rust's are.
+    ($($call:ident = $name:ident($lent:tt $(, $word:ident: $kind:ty)*);)*) => {
         struct Calls {
-            $($call: unsafe extern "C" fn(usize, usize, *mut u64, usize, *mut u16, usize, $($kind),*) -> u32,)*
+            $($call: unsafe extern "C" fn(
+                usize,
+                usize,
+                *$lent u64,
+                usize,
+                *$lent u16,
+                usize,
+                $($kind),*
+            ) -> u32,)*
         }
 
         static CALLS: Calls = Calls { $($call: $name),* };
@@ -42,18 +45,19 @@ macro_rules! ours {
 }
 
 ours! {
-    free_all = rb_free_all();
-    reserve_all = rb_reserve_all();
-    get = rb_get(row: usize, order: usize, frame: &mut usize, probes: &mut usize);
-    get_at = rb_get_at(frame: usize, order: usize, taken: &mut usize, probes: &mut usize);
-    put = rb_put(frame: usize, order: usize);
-    is_free = rb_is_free(frame: usize, order: usize, yes: &mut u32);
-    stats = rb_stats(frames: &mut usize, huge: &mut usize, trees: &mut usize);
-    stats_at = rb_stats_at(frame: usize, order: usize, frames: &mut usize, huge: &mut usize, trees: &mut usize);
-    audit = rb_audit(huge: &mut usize, reason: &mut u32);
-    recover = rb_recover(entries_changed: &mut usize, bitfields_changed: &mut usize);
-    room = rb_room(frame: usize, counts: &mut [usize; 19]);
-    tree_run = rb_tree_run(frame: usize, offset: &mut usize, length: &mut usize);
+    free_all = rb_free_all(mut);
+    reserve_all = rb_reserve_all(mut);
+    get = rb_get(mut, row: usize, order: usize, frame: &mut usize, probes: &mut usize);
+    get_at = rb_get_at(mut, frame: usize, order: usize, taken: &mut usize, probes: &mut usize);
+    put = rb_put(mut, frame: usize, order: usize);
+    is_free = rb_is_free(const, frame: usize, order: usize, yes: &mut u32);
+    stats = rb_stats(const, frames: &mut usize, huge: &mut usize, trees: &mut usize);
+    stats_at =
+        rb_stats_at(const, frame: usize, order: usize, frames: &mut usize, huge: &mut usize, trees: &mut usize);
+    audit = rb_audit(const, huge: &mut usize, reason: &mut u32);
+    recover = rb_recover(mut, entries_changed: &mut usize, bitfields_changed: &mut usize);
+    room = rb_room(const, frame: usize, counts: &mut [usize; 19]);
+    tree_run = rb_tree_run(const, frame: usize, offset: &mut usize, length: &mut usize);
 }
 
 pub struct Ours {
@@ -89,9 +93,8 @@ impl Rust {
     pub fn load(path: &str) -> Rust {
         let library = Library::load(path);
         unsafe {
-            let tree_huge: extern "C" fn() -> usize = library.function("tree_huge");
             Rust {
-                t: tree_huge(),
+                t: library.tree_huge(),
                 keep: library.function("keep"),
                 copy: library.function("kept_copy"),
                 start: library.function("kept_start"),

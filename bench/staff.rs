@@ -4,21 +4,18 @@
 //!
 //! A pass of a call that may write is one call.
 
-#[path = "../oracle/library.rs"]
-mod library;
-// Not all of its numbers are of use here.
+// Not all of its rows are of use here.
 #[allow(dead_code)]
-#[path = "../oracle/random.rs"]
-mod random;
+mod rows;
 // Nor all of its calls.
 #[allow(dead_code)]
 mod sides;
 mod state;
 mod turns;
 
-use random::Random;
+use rows::Random;
 use sides::{NONE, Ours, Rust, line};
-use state::{MARK, State};
+use state::{HUGE_FRAMES, HUGE_ORDER, HUGE_ROWS, MARK, State};
 
 const HUGE: usize = 2048;
 /// Calls in a pass over all entries.
@@ -28,7 +25,8 @@ const FRAMES: usize = 1024;
 
 /// Every count is wrong.
 fn miscounted(mut state: State) -> State {
-    state.entries.iter_mut().filter(|entry| **entry != MARK).for_each(|entry| *entry = (*entry + 1) % 513);
+    let counts = state.entries.iter_mut().filter(|entry| **entry != MARK);
+    counts.for_each(|entry| *entry = (*entry + 1) % (HUGE_FRAMES as u16 + 1));
     state
 }
 
@@ -36,7 +34,8 @@ fn miscounted(mut state: State) -> State {
 fn stained(t: usize, random: &mut Random) -> State {
     let mut state = State::fresh(t, HUGE / t);
     state.entries.fill(MARK);
-    state.rows.chunks_mut(8).for_each(|rows| rows[random.below(8) as usize] = 1 << random.below(64));
+    let mut stain = |rows: &mut [u64]| rows[random.below(rows.len() as u64) as usize] = 1 << random.below(64);
+    state.rows.chunks_mut(HUGE_ROWS).for_each(&mut stain);
     state
 }
 
@@ -99,8 +98,9 @@ fn lines(rust: &Rust, random: &mut Random) {
         line("audit", "", state, 1, audit, rust, NONE);
     }
 
-    let frames: Vec<usize> = (0..FRAMES).map(|_| random.below(512 * HUGE as u64) as usize).collect();
-    let mut orders = vec![0, 9, 9 + t.ilog2() as usize];
+    let frames: Vec<usize> =
+        (0..FRAMES).map(|_| random.below((HUGE_FRAMES * HUGE) as u64) as usize).collect();
+    let mut orders = vec![0, HUGE_ORDER, HUGE_ORDER + t.ilog2() as usize];
     orders.dedup();
     for order in orders {
         line(

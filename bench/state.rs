@@ -1,8 +1,23 @@
 //! Consistent states of whole trees, flat, as ours has them.
 
-use crate::random::Random;
+#[allow(dead_code)]
+#[path = "../oracle/model"]
+mod model {
+    pub mod blocks;
+    pub mod numbers;
+}
 
-pub const MARK: u16 = 65535;
+use crate::rows::Random;
+use model::blocks::{hold, zeros};
+use model::numbers::Variant;
+
+pub use model::numbers::MARK;
+
+/// That of the default page size.
+const VARIANT: Variant = Variant { huge_order: 9 };
+pub const HUGE_ORDER: usize = VARIANT.huge_order as usize;
+pub const HUGE_FRAMES: usize = VARIANT.huge_frames() as usize;
+pub const HUGE_ROWS: usize = VARIANT.huge_rows() as usize;
 
 #[derive(Clone, PartialEq)]
 pub struct State {
@@ -15,13 +30,14 @@ pub struct State {
 impl State {
     pub fn fresh(t: usize, trees: usize) -> State {
         let huge = trees * t;
-        State { n: 512 * huge, t, rows: vec![0; 8 * huge], entries: vec![512; huge] }
+        let (rows, entries) = (vec![0; HUGE_ROWS * huge], vec![HUGE_FRAMES as u16; huge]);
+        State { n: HUGE_FRAMES * huge, t, rows, entries }
     }
 
     pub fn count(&mut self) {
-        for (entry, rows) in self.entries.iter_mut().zip(self.rows.chunks(8)) {
+        for (entry, rows) in self.entries.iter_mut().zip(self.rows.chunks(HUGE_ROWS)) {
             if *entry != MARK {
-                *entry = rows.iter().map(|row| row.count_zeros() as u16).sum();
+                *entry = zeros(rows) as u16;
             }
         }
     }
@@ -29,7 +45,8 @@ impl State {
     /// Half full: of eight trees one is free and one held, and six are split.
     pub fn half(t: usize, trees: usize, random: &mut Random) -> State {
         let mut state = State::fresh(t, trees);
-        (0..trees).for_each(|tree| state.treat(512 * t * tree, 512 * t, tree as u64 % 8, random));
+        let tree_frames = HUGE_FRAMES * t;
+        (0..trees).for_each(|tree| state.treat(tree_frames * tree, tree_frames, tree as u64 % 8, random));
         state.count();
         state
     }
@@ -38,8 +55,10 @@ impl State {
     fn treat(&mut self, frame: usize, frames: usize, treatment: u64, random: &mut Random) {
         match treatment {
             0 => {}
-            1 if frames >= 512 => self.entries[frame / 512..][..frames / 512].fill(MARK),
-            1 => (frame..frame + frames).for_each(|frame| self.rows[frame / 64] |= 1 << (frame % 64)),
+            1 if frames >= HUGE_FRAMES => {
+                self.entries[frame / HUGE_FRAMES..][..frames / HUGE_FRAMES].fill(MARK);
+            }
+            1 => (frame..frame + frames).for_each(|frame| hold(&mut self.rows, frame as u64, true)),
             _ => {
                 let half = frames / 2;
                 let treatments = if half == 1 { 2 } else { 8 };

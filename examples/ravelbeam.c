@@ -1,6 +1,6 @@
 /* 1,000 frames in trees of two huge frames: take one, and give it back. From the folder of the repository:
  *
- *     cc -Iinclude examples/ravelbeam.c target/staticlib/libcapi.a -o target/example && target/example */
+ *     cc -Iinclude examples/ravelbeam.c target/staticlib/libravelbeam.a -o target/example && target/example */
 
 #include "ravelbeam.h"
 

@@ -27,9 +27,9 @@
  *     and results lie apart from each other, and nobody else writes them during the call.
  *   - The caller gives the same N and T to all calls on a state: nothing is kept between calls.
  *
- * The archive to link is target/staticlib/libcapi.a, made by `rt staticlib capi`. It is for x86-64, in
- * the System V calling convention with its vector registers and its red zone, and calls nothing but
- * memcpy and memset. */
+ * The archive to link is target/staticlib/libravelbeam.a, made by `rt staticlib ravelbeam`. It is for
+ * x86-64, in the System V calling convention with its vector registers and its red zone, and calls
+ * nothing but memcpy and memset. */
 
 #ifndef RAVELBEAM_H
 #define RAVELBEAM_H

@@ -1,6 +1,9 @@
 /* A fuzz target for libFuzzer: bytes are read as N, T, a state and a list of calls. Each call is made through
- * libcapi.a, the archive that users link, and held to what document 01 promises of every call, and to the Rust
+ * libravelbeam.a, the archive that users link, and held to what document 01 promises of every call, and to the Rust
  * wherever the Rust has an answer. Run by oracle/fuzz/run.
+ *
+ * It has no model of document 01, as the comparison has in oracle/model: its checks are relations between calls and
+ * states, such as that a put undoes its get. Only the refusals 1 to 6 are worked out.
  *
  * The archive is machine code, of which libFuzzer sees nothing. So each call, with its code, its order and more, has
  * a counter that libFuzzer takes for coverage. */

@@ -1,7 +1,7 @@
 /* Calls that are wrong in one way each, for `oracle/fuzz/run check`: the linker's --wrap puts them before those of
  * the archive, and WRONG says which of them errs. */
 
-#include "../words.h"
+#include "../shared/words.h"
 
 enum {
     PUT_FORGETS = 1,

@@ -1,10 +1,9 @@
 /* The lower level's calls as one, with all that they are lent. */
+#pragma once
 
-#include "../words.h"
+#include "../shared/lent.h"
 
 enum { FREE_ALL = 1, RESERVE_ALL, GET, GET_AT, PUT, IS_FREE, STATS, STATS_AT, AUDIT, RECOVER, TREE_ROOM, TREE_RUN };
-/* The most numbers that a call is lent. */
-enum { NUMBERS = 19 };
 
 /* A call, and the rows and entries it is lent. What it does not take is 0; at is the start row of a get, else the
  * frame. */
@@ -12,12 +11,6 @@ struct call {
     word what, n, t, rows_len, entries_len, at, order;
     word *rows;
     entry *entries;
-};
-
-/* The numbers that a call is lent, between others that it is not. */
-struct lent {
-    size before, numbers[NUMBERS], after;
-    number small_before, small, small_after;
 };
 
 /* Makes the call: its code, and in count how many numbers it was lent. */
@@ -29,10 +22,7 @@ static number make(const struct call *it, struct lent *lent, word *count)
     size *numbers = lent->numbers;
     number code;
 
-    lent->before = lent->after = UNWRITTEN;
-    lent->small_before = lent->small = lent->small_after = (number)UNWRITTEN;
-    for (word i = 0; i < NUMBERS; i++)
-        numbers[i] = UNWRITTEN;
+    lend(lent);
     *count = 2;
     switch (it->what) {
     case FREE_ALL:
@@ -72,15 +62,4 @@ static number make(const struct call *it, struct lent *lent, word *count)
     default:
         return rb_tree_run(n, t, rows, rows_len, entries, entries_len, at, &numbers[0], &numbers[1]);
     }
-}
-
-/* Whether all that a call of so many numbers was not lent is unwritten. */
-static int kept(const struct lent *lent, word count)
-{
-    int yes = lent->before == UNWRITTEN && lent->after == UNWRITTEN &&
-              lent->small_before == (number)UNWRITTEN && lent->small_after == (number)UNWRITTEN;
-
-    for (word i = count; i < NUMBERS; i++)
-        yes &= lent->numbers[i] == UNWRITTEN;
-    return yes;
 }

@@ -1,10 +1,11 @@
 //! What a run has borrowed, frame by frame: for the promise that a run which gives back exactly what it took
 //! leaves no trace.
 
-use crate::model::{MARK, top_order};
-use crate::random::{Random, mask};
-use crate::room::Room;
-use crate::sides::{Call, Outcome, What, by_model};
+use crate::lower::calls::{Call, What};
+use crate::model::numbers::MARK;
+use crate::shared::comparison::Call as _;
+use crate::shared::random::{Random, mask};
+use crate::shared::room::{Outcome, Room};
 
 pub struct Ledger {
     /// A call's numbers, with no more lent than is needed.
@@ -22,7 +23,8 @@ impl Ledger {
     pub fn new(plain: Call, start: &Room) -> Ledger {
         let mut copy = start.clone();
         let (rows, entries) = copy.lent(plain.rows, plain.entries);
-        let marked = |row: usize| entries[row / 8] == MARK;
+        let huge_rows = plain.shape.variant.huge_rows() as usize;
+        let marked = |row: usize| entries[row / huge_rows] == MARK;
         let held = (0..rows.len()).map(|row| if marked(row) { u64::MAX } else { rows[row] });
         Ledger { plain, held: held.collect(), mine: vec![0; rows.len()], start: start.clone(), borrowed: 0 }
     }
@@ -30,12 +32,13 @@ impl Ledger {
     /// Whether the call keeps to what was borrowed: it gives back nothing else, and starts nothing anew. One
     /// that is refused may be any.
     pub fn allows(&self, call: &Call, now: &Room) -> bool {
+        let highest = call.shape.variant.highest_order();
         let kept = match call.what {
             What::FreeAll | What::ReserveAll => false,
-            What::Put => call.order < 20 && self.all_mine(call.at, call.order),
+            What::Put => call.order <= highest && self.all_mine(call.at, call.order),
             _ => true,
         };
-        kept || by_model(call, now).code != 0
+        kept || call.by_model(now).code != 0
     }
 
     /// Takes note of what the call got or put back. What it got must have been nobody's.
@@ -62,7 +65,7 @@ impl Ledger {
         for piece in 0.. {
             let Some(frame) = self.any(random) else { return };
             let fits = |order: &u64| self.all_mine(frame >> order << order, *order);
-            let most = (0..top_order(self.plain.t) + 1).take_while(fits).last().unwrap();
+            let most = (0..self.plain.shape.top_order() + 1).take_while(fits).last().unwrap();
             // Mostly the largest blocks, and in the end only these: else it would take long.
             let some = if piece < 64 { random.below(most + 1) } else { most };
             let highest = random.one_of(&[most, some]);
@@ -74,7 +77,8 @@ impl Ledger {
                 if outcome.code == 0 {
                     break;
                 }
-                assert!(outcome.code == 7 && order > 8, "{call}: not taken back");
+                let huge = order >= self.plain.shape.variant.huge_order;
+                assert!(outcome.code == 7 && huge, "{call}: not taken back");
             }
         }
     }

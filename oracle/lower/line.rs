@@ -1,10 +1,12 @@
 //! Calls and their outcomes as document 01's program `trace` reads and prints them.
 
-use crate::sides::{Call, Outcome, What};
+use crate::lower::calls::{Call, What};
+use crate::model::numbers::Shape;
+use crate::shared::room::Outcome;
 
 /// The line of a call; room and tree run have none.
 pub fn line(call: &Call) -> Option<String> {
-    let Call { what, n, t, at, order, .. } = call;
+    let Call { what, shape: Shape { n, t, .. }, at, order, .. } = call;
     let letter = match what {
         What::FreeAll => return Some(format!("I {n} {t} 0")),
         What::ReserveAll => return Some(format!("I {n} {t} 1")),

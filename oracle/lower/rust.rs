@@ -1,11 +1,12 @@
-//! The Rust's lower level, in the build of one tree size. The names and types are those of export.rs.
+//! The Rust's lower level, in its builds. The names and types are those of export.rs.
 
-use crate::library::Library;
+use crate::model::numbers::{Shape, Variant};
+use crate::shared::library::{Library, huge_order};
 
-/// Each call copies rows and entries into the Rust's layout and back.
+/// The build of one tree size. Each call copies rows and entries into the Rust's layout and back.
 pub struct Rust {
     /// Huge frames in a tree.
-    pub t: u64,
+    t: u64,
     pub new: unsafe extern "C" fn(usize, *mut u64, *mut u16, u32) -> u32,
     pub get: unsafe extern "C" fn(usize, *mut u64, *mut u16, usize, usize, Option<&usize>, &mut usize) -> u32,
     pub put: unsafe extern "C" fn(usize, *mut u64, *mut u16, usize, usize) -> u32,
@@ -16,12 +17,10 @@ pub struct Rust {
 }
 
 impl Rust {
-    pub fn load(path: &str) -> Rust {
-        let library = Library::load(path);
+    fn of(library: &Library) -> Rust {
         unsafe {
-            let tree_huge: extern "C" fn() -> usize = library.function("tree_huge");
             Rust {
-                t: tree_huge() as u64,
+                t: library.tree_huge() as u64,
                 new: library.function("new"),
                 get: library.function("get"),
                 put: library.function("put"),
@@ -31,5 +30,25 @@ impl Rust {
                 recover: library.function("recover"),
             }
         }
+    }
+}
+
+/// The builds of one page size, one for each tree size.
+pub struct Builds {
+    pub variant: Variant,
+    builds: Vec<Rust>,
+}
+
+impl Builds {
+    pub fn load(paths: &[String]) -> Builds {
+        let libraries: Vec<Library> = paths.iter().map(|path| Library::load(path)).collect();
+        let builds = libraries.iter().map(Rust::of).collect();
+        Builds { variant: Variant { huge_order: huge_order(&libraries) }, builds }
+    }
+
+    /// The build for these numbers.
+    pub fn of(&self, shape: Shape) -> &Rust {
+        assert!(shape.variant == self.variant, "no build for this page size");
+        self.builds.iter().find(|build| build.t == shape.t).expect("a build for each tree size")
     }
 }

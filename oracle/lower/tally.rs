@@ -1,25 +1,25 @@
-//! What a comparison came by: how often each kind of call was answered with each code, and in what way.
+//! What the comparison of the lower level's calls came by: how often each was answered with each code, and in what
+//! way.
 
-use std::process::exit;
+use crate::lower::calls::{ALL, CALLS, Call, STAFF, What};
+use crate::model::numbers::{MOST, TREES, Variant};
+use crate::shared::comparison;
+use crate::shared::demand::demand;
+use crate::shared::room::{Outcome, Room};
 
-use crate::model::top_order;
-use crate::room::Room;
-use crate::sides::{ALL, Call, Outcome, STAFF, What};
-
-/// The place of all orders above the top order, and of calls without a tree size, which have no top order.
-const ABOVE: usize = 19;
 /// Ways to answer, at most.
 const WAYS: usize = 7;
 
 /// One count for each way to answer and each code.
 type Ways = [[u64; 9]; WAYS];
 
-#[derive(Default)]
 pub struct Tally {
-    /// For each call and order.
-    orders: [[Ways; ABOVE + 1]; 13],
+    variant: Variant,
+    /// For each call and order; the last is for all above the top order, and for calls without a tree size,
+    /// which have no top order.
+    orders: Vec<Vec<Ways>>,
     /// For each call and logarithm of the tree size; not for refusals 1 and 2.
-    trees: [[Ways; 10]; 13],
+    trees: [[Ways; TREES.len()]; CALLS],
     /// Those that the Rust answered too.
     both: u64,
 }
@@ -32,34 +32,47 @@ fn way(call: &Call, before: &mut Room, answer: &Outcome) -> usize {
     let Outcome { code, numbers, .. } = answer;
     let above_0 = |number: usize| (numbers[number] > 0) as usize;
     match call.what {
-        What::Recover if *code == 8 => before.lent_to(call).past_mending() as usize,
+        What::Recover if *code == 8 => call.lends(before).past_mending() as usize,
         _ if *code != 0 => 0,
         What::IsFree | What::TreeRun => above_0(0),
         What::Stats => above_0(2),
         What::StatsAt => match call.order {
             0 => above_0(0),
-            9 => 2 + above_0(1),
-            order if order == top_order(call.t) => 4 + above_0(2),
+            order if order == call.shape.variant.huge_order => 2 + above_0(1),
+            order if order == call.shape.top_order() => 4 + above_0(2),
             _ => 6,
         },
         What::Audit => numbers[1] as usize,
         What::Recover => above_0(0) + 2 * above_0(1),
-        What::TreeRoom => above_0(top_order(call.t) as usize),
+        What::TreeRoom => above_0(call.shape.top_order() as usize),
         _ => 0,
     }
 }
 
-impl Tally {
-    pub fn add(&mut self, call: &Call, before: &mut Room, answer: &Outcome, both: bool) {
+impl comparison::Tally<Call> for Tally {
+    fn add(&mut self, call: &Call, before: &mut Room, answer: &Outcome, both: bool) {
         let (what, way, code) = (call.what as usize, way(call, before, answer), answer.code as usize);
+        let above = self.above();
         self.both += both as u64;
         if code == 1 || code == 2 {
-            self.orders[what][ABOVE][way][code] += 1;
+            self.orders[what][above][way][code] += 1;
             return;
         }
-        let order = if call.order > top_order(call.t) { ABOVE } else { call.order as usize };
+        let order = if call.order > call.shape.top_order() { above } else { call.order as usize };
         self.orders[what][order][way][code] += 1;
-        self.trees[what][call.t.ilog2() as usize][way][code] += 1;
+        self.trees[what][call.shape.t.ilog2() as usize][way][code] += 1;
+    }
+}
+
+impl Tally {
+    pub fn new(variant: Variant) -> Tally {
+        let orders = vec![Ways::default(); variant.highest_order() as usize + 2];
+        Tally { variant, orders: vec![orders; CALLS], trees: Default::default(), both: 0 }
+    }
+
+    /// The place of all orders above the top order.
+    fn above(&self) -> usize {
+        self.variant.highest_order() as usize + 1
     }
 
     /// All calls; the staff's among them; those that the Rust answered too; and those refused with 1 to 6 or
@@ -75,29 +88,29 @@ impl Tally {
     }
 
     /// Ends the run unless each call was answered with each code that it can have, at each order and tree
-    /// size: a comparison that never gets there would say nothing.
+    /// size.
     pub fn demand_all(&self) {
         for start in [What::FreeAll, What::ReserveAll] {
             self.demand(start, 0, 0, &[0, 3]);
             self.demand_trees(start, &[0, 3]);
         }
         let on_frames = [What::Get, What::GetAt, What::Put, What::IsFree];
-        for order in 0..ABOVE {
+        for order in 0..self.above() {
             on_frames.iter().for_each(|what| self.demand(*what, order, 0, &[0, 5]));
             on_frames[..3].iter().for_each(|what| self.demand(*what, order, 0, &[7]));
-            // Order 0 is aligned anywhere.
-            if order > 0 {
+            // Order 0 is aligned anywhere, and as many frames as there can be lie at 0 alone.
+            if order > 0 && 1 << order < MOST {
                 on_frames[1..].iter().for_each(|what| self.demand(*what, order, 0, &[6]));
             }
             self.demand(What::IsFree, order, 1, &[0]);
             self.demand(What::Get, order, 0, &[8]);
-            if order < 9 {
+            if (order as u64) < self.variant.huge_order {
                 self.demand(What::GetAt, order, 0, &[8]);
                 self.demand(What::Put, order, 0, &[8]);
             }
         }
-        on_frames.iter().for_each(|what| self.demand(*what, ABOVE, 0, &[4]));
-        ALL.iter().for_each(|what| self.demand(*what, ABOVE, 0, &[1, 2]));
+        on_frames.iter().for_each(|what| self.demand(*what, self.above(), 0, &[4]));
+        ALL.iter().for_each(|what| self.demand(*what, self.above(), 0, &[1, 2]));
         self.demand_trees(What::Get, &[0, 3, 4, 5, 7, 8]);
         self.demand_trees(What::GetAt, &[0, 3, 4, 5, 6, 7, 8]);
         self.demand_trees(What::Put, &[0, 3, 4, 5, 6, 7, 8]);
@@ -106,24 +119,28 @@ impl Tally {
     }
 
     /// The same of the staff's calls: each way to answer, at each tree size. In trees of one huge frame no
-    /// entry is absent, and 9 is the top order.
+    /// entry is absent, and the huge order is the top order; a tree of as many frames as there can be is the
+    /// only one.
     fn demand_staff(&self) {
-        for log in 0..10 {
+        for log in 0..TREES.len() {
             let demand = |what, way, codes| self.demand_tree(what, log, way, codes);
             let has = |way: &usize, absent: &[usize]| log > 0 || !absent.contains(way);
             STAFF.iter().for_each(|what| demand(*what, 0, &[0, 3]));
             [What::StatsAt, What::TreeRoom, What::TreeRun].iter().for_each(|what| demand(*what, 0, &[5]));
-            [What::Stats, What::TreeRoom, What::TreeRun].iter().for_each(|what| demand(*what, 1, &[0]));
+            [What::Stats, What::TreeRoom].iter().for_each(|what| demand(*what, 1, &[0]));
+            if self.variant.huge_frames() << log < MOST {
+                demand(What::TreeRun, 1, &[0]);
+            }
             (1..7).filter(|way| has(way, &[4, 5])).for_each(|way| demand(What::StatsAt, way, &[0]));
             (1..6).filter(|way| has(way, &[5])).for_each(|way| demand(What::Audit, way, &[0]));
             (1..4).for_each(|way| demand(What::Recover, way, &[0]));
             [1, 3, 5].iter().filter(|way| has(way, &[5])).for_each(|way| demand(What::Recover, *way, &[8]));
         }
-        for order in 0..=ABOVE {
-            let way = match order {
+        for order in 0..=self.above() {
+            let way = match order as u64 {
                 0 => 0,
-                9 => 2,
-                18 => 4,
+                order if order == self.variant.huge_order => 2,
+                order if order == self.variant.highest_order() => 4,
                 _ => 6,
             };
             self.demand(What::StatsAt, order, way, &[0]);
@@ -137,18 +154,15 @@ impl Tally {
     }
 
     fn demand_tree(&self, what: What, log: usize, way: usize, codes: &[usize]) {
-        let name = format!("{what:?}, T {}, way {way}", 1 << log);
+        let name = format!("{what:?}, T {}, way {way}", TREES[log]);
         met(&self.trees[what as usize][log][way], codes, &name);
     }
 
     fn demand_trees(&self, what: What, codes: &[usize]) {
-        (0..10).for_each(|log| self.demand_tree(what, log, 0, codes));
+        (0..TREES.len()).for_each(|log| self.demand_tree(what, log, 0, codes));
     }
 }
 
 fn met(counts: &[u64; 9], codes: &[usize], name: &str) {
-    for code in codes.iter().filter(|code| counts[**code] == 0) {
-        println!("lower: never compared: {name}, code {code}");
-        exit(1);
-    }
+    codes.iter().for_each(|code| demand("lower", counts[*code], format!("{name}, code {code}")));
 }

@@ -1,21 +1,22 @@
 //! A second reading of document 01's program `trace`: what it is to print for each line. What a line does is
 //! the Rust's doing wherever the Rust has it, and that of the model of the lower level.
 
-use crate::line::answer;
-use crate::random::Random;
-use crate::room::Room;
-use crate::rust::Rust;
-use crate::sides::{Call, Outcome, What, by_model, by_rust};
+use crate::lower::calls::{Call, What};
+use crate::lower::line::answer;
+use crate::lower::rust::Builds;
+use crate::model::numbers::{Shape, Variant};
+use crate::shared::comparison::Call as _;
+use crate::shared::random::Random;
+use crate::shared::room::{Outcome, Room};
 
 /// "`trace` holds 4,096 rows and 512 entries, all zero at the start, with N = T = 0."
-const ROWS: u64 = 4096;
-const ENTRIES: u64 = 512;
+pub const ROWS: u64 = 4096;
+pub const ENTRIES: u64 = 512;
 
 pub struct Trace<'a> {
-    rust: &'a [Rust],
+    rust: &'a Builds,
     room: Room,
-    n: u64,
-    t: u64,
+    shape: Shape,
 }
 
 /// What a line is to print, and where it is not bad its call, what that does, and whether the Rust said so
@@ -26,24 +27,28 @@ pub struct Expected {
 }
 
 impl Trace<'_> {
-    pub fn new<'a>(rust: &'a [Rust], random: &mut Random) -> Trace<'a> {
+    pub fn new<'a>(rust: &'a Builds, random: &mut Random) -> Trace<'a> {
         let mut room = Room::new((ROWS, ENTRIES), random);
         let (rows, entries) = room.lent(ROWS, ENTRIES);
         rows.fill(0);
         entries.fill(0);
-        Trace { rust, room, n: 0, t: 0 }
+        Trace { rust, room, shape: Shape { variant: rust.variant, n: 0, t: 0 } }
+    }
+
+    pub fn variant(&self) -> Variant {
+        self.shape.variant
     }
 
     /// "A bad line prints `9` alone. A refused I keeps the old N and T."
     pub fn line(&mut self, line: &[u8]) -> Expected {
         let Some(call) = self.call(line) else { return Expected { text: "9".to_string(), call: None } };
-        let outcome = by_model(&call, &self.room);
-        let rust = by_rust(self.rust, &call, &self.room, &outcome);
+        let outcome = call.by_model(&self.room);
+        let rust = call.by_rust(self.rust, &self.room, &outcome);
         let both = rust.is_some();
         assert!(rust.is_none_or(|rust| rust == outcome), "the Rust and the model differ in {call}");
         self.room.change(&outcome.changes);
         if is_start(&call) && outcome.code == 0 {
-            (self.n, self.t) = (call.n, call.t);
+            self.shape = call.shape;
         }
         Expected { text: answer(&outcome), call: Some((call, outcome, both)) }
     }
@@ -52,12 +57,11 @@ impl Trace<'_> {
     /// `F frame order` (put), `Q frame order` (is_free), `S`, `T frame order`, `A`, `R`."
     fn call(&self, line: &[u8]) -> Option<Call> {
         let (letter, numbers) = fields(line)?;
-        let call = |what, at, order| {
-            Some(Call { what, n: self.n, t: self.t, rows: ROWS, entries: ENTRIES, at, order })
-        };
+        let shape = self.shape;
+        let call = |what, at, order| Some(Call { what, shape, rows: ROWS, entries: ENTRIES, at, order });
         let start = |n, t, m| match m {
-            0 => Some(Call { n, t, ..call(What::FreeAll, 0, 0)? }),
-            1 => Some(Call { n, t, ..call(What::ReserveAll, 0, 0)? }),
+            0 => Some(call(What::FreeAll, 0, 0)?.with(n, t)),
+            1 => Some(call(What::ReserveAll, 0, 0)?.with(n, t)),
             _ => None,
         };
         match (letter, &numbers[..]) {

@@ -1,17 +1,20 @@
 //! The lines that `trace` is fed: mostly good ones. All of it follows from the seed.
 
-use crate::expected::is_start;
-use crate::inputs::Run;
-use crate::line::line;
-use crate::random::Random;
-use crate::sides::{Call, Outcome, What};
-use crate::spoils::{SPOILS, with_field};
-use crate::states::{MOST, TREES, frames, named_frames};
+use crate::lower::calls::{Call, What};
+use crate::lower::line::line;
+use crate::lower::runs::Run;
+use crate::lower::states::{frames, named_frames};
+use crate::model::numbers::{LARGEST_TREE, MOST, Shape, TREES, Variant};
+use crate::shared::random::Random;
+use crate::shared::room::Outcome;
+use crate::trace::expected::{ROWS, is_start};
+use crate::trace::spoils::{SPOILS, with_field};
 
 /// The most frames that the program has rows for.
-const ROOM: u64 = 262_144;
+const ROOM: u64 = 64 * ROWS;
 
 pub struct Lines {
+    variant: Variant,
     run: Run,
     /// Whether a start was made, and the number of the next one's tree size.
     started: bool,
@@ -20,9 +23,9 @@ pub struct Lines {
 
 impl Lines {
     /// The calls before any start are as if on 1,000 frames.
-    pub fn new(random: &mut Random) -> Lines {
-        let run = Run::from_start(1000, 2, What::FreeAll, random).1;
-        Lines { run, started: false, next_tree: random.below(10) as usize }
+    pub fn new(variant: Variant, random: &mut Random) -> Lines {
+        let run = Run::from_start(Shape { variant, n: 1000, t: 2 }, What::FreeAll, random).1;
+        Lines { variant, run, started: false, next_tree: random.below(TREES.len() as u64) as usize }
     }
 
     /// The next line, and the number of its spoil, if it has one.
@@ -46,13 +49,13 @@ impl Lines {
                 0 => self.start(random),
                 // Soon after the first lines, which have no N.
                 1..4 if !self.started => self.start(random),
-                1 => refused_start(random),
+                1 => refused_start(self.variant, random),
                 2..22 => self.run.staff(random),
                 _ => self.run.next(random),
             };
             let call = if random.below(8) == 0 { beside(call, random) } else { call };
             let Some(text) = line(&call) else { continue };
-            let short = is_start(&call) && call.t == 4 && random.below(2) == 0;
+            let short = is_start(&call) && call.shape.t == 4 && random.below(2) == 0;
             return if short { text.replacen(" 4 ", " ", 1) } else { text };
         }
     }
@@ -65,17 +68,17 @@ impl Lines {
         let n = match random.below(4) {
             0 => ROOM - random.below(3),
             1 => 1 + random.below(ROOM),
-            2 => random.one_of(&named_frames(t)),
-            _ => frames(t, random),
+            2 => random.one_of(&named_frames(self.variant, t)),
+            _ => frames(self.variant, t, random),
         };
         let what = random.one_of(&[What::FreeAll, What::ReserveAll]);
-        Run::from_start(n.min(ROOM), t, what, random).2
+        Run::from_start(Shape { variant: self.variant, n: n.min(ROOM), t }, what, random).2
     }
 
     /// Takes note of what a line did: after a start that is done, the calls are on its frames.
     pub fn saw(&mut self, call: &Call, outcome: &Outcome, random: &mut Random) {
         if is_start(call) && outcome.code == 0 {
-            self.run = Run::from_start(call.n, call.t, call.what, random).1;
+            self.run = Run::from_start(call.shape, call.what, random).1;
         } else {
             self.run.saw(call, outcome);
         }
@@ -84,17 +87,18 @@ impl Lines {
 
 /// The call with a row or frame and an order beside its own.
 fn beside(call: Call, random: &mut Random) -> Call {
-    let at = random.one_of(&[call.at, call.at.wrapping_add(1), call.at.wrapping_add(64), call.n]);
-    let any = random.below(21);
+    let at = random.one_of(&[call.at, call.at.wrapping_add(1), call.at.wrapping_add(64), call.shape.n]);
+    let any = random.below(call.shape.variant.highest_order() + 3);
     let order = random.one_of(&[call.order, call.order, call.order.wrapping_add(1), any]);
     Call { at, order, ..call }.to(call.what)
 }
 
 /// A start with numbers for which it is refused, mostly.
-fn refused_start(random: &mut Random) -> Call {
+fn refused_start(variant: Variant, random: &mut Random) -> Call {
     let (tree, any) = (random.one_of(&TREES), random.word() >> random.below(64));
     let what = random.one_of(&[What::FreeAll, What::ReserveAll]);
     let n = random.one_of(&[0, ROOM + 1, ROOM + 2, MOST - 1, MOST, MOST + 1, 1 << 32, u64::MAX, any, 1000]);
-    let t = random.one_of(&[tree, tree, tree, tree, 0, 3, 513, 1024, 1 << 32, u64::MAX, any]);
-    Call { n, t, ..Run::from_start(1000, tree, what, random).2 }
+    let (above, twice) = (LARGEST_TREE + 1, 2 * LARGEST_TREE);
+    let t = random.one_of(&[tree, tree, tree, tree, 0, 3, above, twice, 1 << 32, u64::MAX, any]);
+    Run::from_start(Shape { variant, n: 1000, t: tree }, what, random).2.with(n, t)
 }

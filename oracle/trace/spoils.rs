@@ -1,6 +1,6 @@
 //! Ways to make a good line of `trace` bad. Some leave it good now and then.
 
-use crate::random::Random;
+use crate::shared::random::Random;
 
 /// What is wrong, and a line with that, made of a good one.
 pub type Spoil = (&'static str, fn(&str, &mut Random) -> Vec<u8>);

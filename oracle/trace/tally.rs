@@ -1,17 +1,17 @@
 //! What the comparison of `trace` came by, each of which it must have met.
 
-use std::process::exit;
-
-use crate::expected::{Expected, is_start};
-use crate::sides::What;
-use crate::spoils::SPOILS;
+use crate::lower::calls::{CALLS, What};
+use crate::model::numbers::TREES;
+use crate::shared::demand::demand;
+use crate::trace::expected::{Expected, is_start};
+use crate::trace::spoils::SPOILS;
 
 #[derive(Default)]
 pub struct Tally {
     /// For each call and code.
-    codes: [[u64; 9]; 13],
+    codes: [[u64; 9]; CALLS],
     /// Starts done with each tree size, by its logarithm.
-    starts: [u64; 10],
+    starts: [u64; TREES.len()],
     /// Bad lines, by their spoil; the last are those without one.
     bad: [u64; SPOILS.len() + 1],
     /// Runs that ended with an unended line: a good one, and a bad one.
@@ -30,7 +30,7 @@ impl Tally {
         self.codes[call.what as usize][outcome.code as usize] += 1;
         self.both += *both as u64;
         if is_start(call) && outcome.code == 0 {
-            self.starts[call.t.ilog2() as usize] += 1;
+            self.starts[call.shape.t.ilog2() as usize] += 1;
         }
     }
 
@@ -60,7 +60,7 @@ impl Tally {
             let counts = self.codes[what as usize];
             codes.iter().for_each(|code| met(counts[*code], &format!("{what:?}, code {code}")));
         }
-        (0..10).for_each(|log| met(self.starts[log], &format!("a start with T {}", 1 << log)));
+        TREES.iter().zip(self.starts).for_each(|(t, count)| met(count, &format!("a start with T {t}")));
         self.bad.iter().zip(SPOILS).for_each(|(count, (name, _))| met(*count, name));
         met(self.unended[0], "a last good line that has no end");
         met(self.unended[1], "a last bad line that has no end");
@@ -68,8 +68,5 @@ impl Tally {
 }
 
 fn met(count: u64, name: &str) {
-    if count == 0 {
-        println!("trace: never compared: {name}");
-        exit(1);
-    }
+    demand("trace", count, name);
 }

@@ -5,11 +5,11 @@ use mathlib.Core.List.{List}
 use Prim.Native.Nat.{ℕ, _+_, _-_, _*_, _^_, _≤_, _<_}
 use borrow.Author.Tests.{eq-eqb, ne-eqb, le-leb, lt-leb, not-true, not-false}
 use Rattle.base.specs.Bits.{blockIs}
-use Rattle.shape.specs.Shape.{mark}
-use Rattle.shape.specs.State.{Mem, entryOf, clearOf}
-use Rattle.audit.specs.Audit.{markedReason, countedReason, reason}
-use Rattle.audit.proofs.Rows.{all-are-clear, one-is-set}
-use Rattle.audit.proofs.Reasons.{reason-absent, reason-marked, reason-counted}
+use Rattle.rules.specs.Numbers.{mark}
+use Rattle.rules.specs.State.{Mem, entryOf, clearOf}
+use Rattle.rules.specs.Audit.{markedReason, countedReason, reason}
+use Rattle.rules.proofs.ClearBits.{all-are-clear, one-is-set}
+use Rattle.rules.proofs.Reasons.{reason-absent, reason-marked, reason-counted}
 
 -- ---- with the mark: the huge frame's end, its clear bits and its size
 

@@ -1,4 +1,1 @@
-pub mod Rows
-pub mod Reasons
-pub mod Audits
 pub mod Cases

@@ -5,17 +5,11 @@ ghost use Prim.Native.Nat.{ℕ, _+_, _-_, _*_, _^_, _<_, _≤_};
 ghost use lib.ListN.{length};
 ghost use Rattle.base.specs.Bits.{blockIs};
 ghost use Rattle.base.specs.Size.{Huge, rowsOf};
-ghost use Rattle.shape.specs.Shape.{entriesNeeded};
-ghost use Rattle.shape.specs.Refuse.{Sized};
-ghost use Rattle.shape.specs.State.{mem, clearOf};
-ghost use Rattle.audit.specs.Audit as spec;
-
-// The first faulty huge frame and document 01's reason, with its number; all 0 where nothing is wrong.
-pub struct Fault {
-    pub code: u32,
-    pub huge: usize,
-    pub reason: u32,
-}
+ghost use Rattle.rules.specs.Numbers.{entriesNeeded};
+ghost use Rattle.rules.specs.Refusals.{Sized};
+ghost use Rattle.rules.specs.State.{mem, clearOf};
+ghost use Rattle.rules.specs.Audit as spec;
+use rules::Fault;
 
 // The clear bits of huge frame x: each row's zeros, summed.
 pub fn zeros(h: usize, rows: &[u64], x: usize) -> usize
@@ -90,7 +84,7 @@ pub fn all(h: usize, n: usize, t: usize, rows: &[u64], entries: &[u16]) -> Fault
     requires { ⌜ (Huge h) × Sized h n t (length (now rows)) (length (now entries)) ⌝ }
     ensures { λ r. ⌜ r ≡ spec.auditAll h n t (mem (now (rows .entry)) (now (entries .entry))) ⌝ }
 {
-    let needed = shape::entries_needed(h, shape::tree_log(t), n);
+    let needed = shape::entries_needed(h, n, t);
     let mut x = 0;
     while x < needed {
         let why = reason(h, n, rows, entries, x);

@@ -12,7 +12,7 @@ use lib.ListN.{length, getD}
 use borrow.Author.Tests.{eq-eqb, ne-eqb, eqb-true, not-true}
 use Rattle.base.specs.Walk.{pick, all, count}
 use Rattle.base.specs.Bits.{bitsAt, solid, bitIs, blockIs, overlay, withBits}
-use Rattle.base.proofs.Walks.{all-each, all-of, all-shift, count-full, count-of, count-none, count-same, count-three}
+use Rattle.base.proofs.Walks.{all-each, all-of, all-shift, count-of, count-none, count-same, count-three}
 use Rattle.base.proofs.Rows.{whole-row}
 use Rattle.base.proofs.Writes.{solid-lt, getD-with}
 
@@ -192,10 +192,6 @@ set-not-clear rows f = go (getD rows (f / 64) 0 / 2 ^ (f % 64))
 pub zeros-block : (b : Bool) (rows : List ℕ) (p s : ℕ) → blockIs b rows p s ≡ true → count (bitIs false rows) s p ≡ pick b 0 s
 zeros-block true rows p s e = count-none (bitIs false rows) s p (λ f lo hi. not-true (bitIs false rows f) (sym (set-not-clear rows f) ∙ block-each true rows p s e f lo hi))
 zeros-block false rows p s e = count-of (bitIs false rows) s p (block-each false rows p s e)
-
--- where all of n frames are clear, every block in them is
-pub all-clear : (rows : List ℕ) (n p s : ℕ) → count (bitIs false rows) n 0 ≡ n → p + s ≤ n → blockIs false rows p s ≡ true
-all-clear rows n p s e l = block-of false rows p s (λ f lo hi. count-full (bitIs false rows) n 0 e f (omega arith) (omega arith))
 
 -- a row whose bits are all clear is 0
 pub clear-row : (rows : List ℕ) → ((i : ℕ) → getD rows i 0 < 2 ^ 64) → (i : ℕ) → ((f : ℕ) → i * 64 ≤ f → f < (i + 1) * 64 → bitIs false rows f ≡ true)

@@ -1,34 +1,30 @@
 -- The sizes that follow from the huge order h, whichever of the two it is, the masks of a size and of its places, and a smaller size within a larger. Assumes nothing.
-use mathlib.Core.Path.{_≡_, refl, sym, ap, _∙_}
+use mathlib.Core.Path.{_≡_, sym, ap, _∙_}
 use Prim.Native.Nat.{ℕ, _+_, _-_, _*_, _/_, _%_, _^_, _≤_, _<_}
 use native.Mathlib.Nat.{add-zero, sub-add-cancel, mul-assoc, mul-le-mul-right, lt-of-mul-lt-mul-right, mul-mod-left, mod-lt, mod-eq-of-lt, div-add-mod'}
 use native.Mathlib.Omega.{arith}
 use lib.Bits.{bitAnd, and-mask}
 use lib.Dec.{lit<}
-use lib.Pow.{pow-pos, pow-add, mod-mod-pow}
-use Rattle.base.specs.Size.{Huge, nine, eleven, rowsOf}
+use lib.Pow.{pow-pos, pow-mono, pow-add, mod-mod-pow}
+use Rattle.base.specs.Size.{Huge, rowsOf}
 use Rattle.base.proofs.Masks.{and-block}
 use Rattle.base.proofs.Rests.{block-ends, mod-rows}
 
--- a huge order is at least 9, so a huge frame is whole rows
-pub huge-low : {h : ℕ} → Huge h → 9 ≤ h
-huge-low nine = omega arith
-huge-low eleven = omega arith
-
--- and at most 11, so a shift by it stays within a word
-pub huge-high : {h : ℕ} → Huge h → h ≤ 11
-huge-high nine = omega arith
-huge-high eleven = omega arith
+-- a smaller power of two divides a larger one: the places of a row, the groups of a huge frame
+pub pow-divides : (o k : ℕ) → o ≤ k → 2 ^ (k - o) * 2 ^ o ≡ 2 ^ k
+pow-divides o k l = sym (pow-add 2 (k - o) o) ∙ ap (λ (x : ℕ). 2 ^ x) (sub-add-cancel l)
 
 -- the frames of a huge frame are those of its rows
 pub rows-frames : {h : ℕ} → Huge h → 2 ^ h ≡ rowsOf h * 64
-rows-frames nine = refl
-rows-frames eleven = refl
+rows-frames {h} H = sym (pow-divides 6 h (omega (arith, H .low)))
 
 -- they are few enough for any sum of a caller's
 pub frames-fit : {h : ℕ} → Huge h → 2 ^ h ≤ 2048
-frames-fit nine = omega arith
-frames-fit eleven = omega arith
+frames-fit H = pow-mono (H .high)
+
+-- and at least 512
+pub frames-many : {h : ℕ} → Huge h → 512 ≤ 2 ^ h
+frames-many H = pow-mono (H .low)
 
 -- the first row of huge frame x begins with its first frame
 pub first-row : {h : ℕ} → Huge h → (x : ℕ) → x * rowsOf h * 64 ≡ x * 2 ^ h
@@ -42,11 +38,7 @@ rows-wrap {h} H row = rw (rows-frames H) (sym (rw (add-zero (row * 64), add-zero
 pub mask-mod : (n k : ℕ) {m : ℕ} → m ≡ 2 ^ k → bitAnd n (m - 1) ≡ n % 2 ^ k
 mask-mod n k e = rw e (and-mask n k)
 
--- a smaller power of two divides a larger one: the places of a row, the groups of a huge frame
-pub pow-divides : (o k : ℕ) → o ≤ k → 2 ^ (k - o) * 2 ^ o ≡ 2 ^ k
-pow-divides o k l = sym (pow-add 2 (k - o) o) ∙ ap (λ (x : ℕ). 2 ^ x) (sub-add-cancel l)
-
--- so a number's rest by the larger one has the same rest by the smaller one
+-- a number's rest by the larger of two powers of two has the same rest by the smaller one
 pub rest-by-less : (a o k : ℕ) → o ≤ k → a % 2 ^ k % 2 ^ o ≡ a % 2 ^ o
 rest-by-less a o k l = ap (λ (x : ℕ). a % 2 ^ x % 2 ^ o) (sym (sub-add-cancel l)) ∙ mod-mod-pow a (k - o) o
 

@@ -23,3 +23,7 @@ out a s = record { answer = a; left = s }
 -- "a refusal writes nothing": refused with code c and the memory as it was, or what is done
 abbrev pub unrefused : {A S : Type 0} → ℕ → A → S → Out A S → Out A S
 unrefused c refusal s done = pick (eqb c 0) done (out refusal s)
+
+-- the same of a call that answers its code alone
+abbrev pub stored : {S : Type 0} → ℕ → S → S → Out ℕ S
+stored c s after = unrefused c c s (out 0 after)

@@ -1,4 +1,4 @@
-pub mod Walk
+pub mod Bits
 pub mod Code
 pub mod Size
-pub mod Bits
+pub mod Walk

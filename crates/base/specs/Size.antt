@@ -1,10 +1,10 @@
 -- Document 01, "Numbers and memory": the sizes that follow from the huge order h.
-use Prim.Native.Nat.{ℕ, _-_, _^_}
+use Prim.Native.Nat.{ℕ, _-_, _^_, _≤_}
 
--- the huge orders there are: 9, and 11 for pages of 16 KiB
-pub data Huge : ℕ → Type 0 where
-  nine : Huge 9
-  eleven : Huge 11
+-- the huge orders that definitions and laws are for: 9, to 11 for pages of 16 KiB
+pub record Huge (h : ℕ) : Type 0 where
+  pub low : 9 ≤ h
+  pub high : h ≤ 11
 
 -- rows of a huge frame, each of 64 = 2 ^ 6 frames
 abbrev pub rowsOf : ℕ → ℕ

@@ -1,3 +1,3 @@
 pub mod Blocks
-pub mod Writing
 pub mod Tails
+pub mod Writing

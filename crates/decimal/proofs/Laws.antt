@@ -15,8 +15,7 @@ use Rattle.base.specs.Walk.{pick}
 use Rattle.base.proofs.Tests.{both}
 use Rattle.decimal.specs.declared.Number.{Number}
 use Rattle.decimal.specs.Decimal.{digits, places, decimal, isDigit, digitsEnd, valueAt, number, isNumber, numberAt}
-use Rattle.decimal.proofs.Digits.{digit-low, Digits, end-within, end-digits, end-stops, end-is}
-use Rattle.decimal.proofs.Digits.{value-high, value-low, length-digits, digits-are, digits-lead, digits-value, value-digits, places-fewest, places-enough, places-are}
+use Rattle.decimal.proofs.Digits.{digit-low, Digits, end-within, end-digits, end-stops, end-is, value-high, value-low, length-digits, digits-are, digits-lead, digits-value, value-digits, places-fewest, places-enough, places-are}
 use Rattle.decimal.proofs.Cases.{number-is}
 pub use Rattle.decimal.proofs.Digits.{places-low, places-high}
 

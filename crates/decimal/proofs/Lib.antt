@@ -1,3 +1,3 @@
-pub mod Digits
 pub mod Cases
+pub mod Digits
 pub mod Laws

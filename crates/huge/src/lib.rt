@@ -1,70 +1,31 @@
 // Orders from the huge order h on: groups of entries are taken, given back and asked; no row is looked at.
 ghost use mathlib.Core.Path.{_≡_};
-ghost use Prim.Native.Nat.{ℕ, _+_, _^_, _≤_};
+ghost use Prim.Native.Nat.{ℕ, _+_, _≤_};
 ghost use lib.ListN.{length};
-ghost use Rattle.base.specs.Walk.{written};
 ghost use Rattle.base.specs.Code.{out};
 ghost use Rattle.base.specs.Size.{Huge};
-ghost use Rattle.shape.specs.Refuse.{Blocked, Started};
-ghost use Rattle.huge.specs.Huge as spec;
-use shape::Got;
-
-// Whether the g entries from at on are all v.
-pub fn entries_are(entries: &[u16], v: u16, at: usize, g: usize) -> bool
-    requires { ⌜ at + g ≤ length (now entries) ⌝ }
-    ensures { λ r. ⌜ r ≡ spec.entriesAre v (now (entries .entry)) at g ⌝ }
-{
-    let end = at + g;
-    let mut i = at;
-    while i < end {
-        if entries[i] != v {
-            return false;
-        }
-        i += 1;
-    }
-    true
-}
-
-// Makes the g entries from at on v.
-fn write_entries(entries: &mut [u16], v: u16, at: usize, g: usize)
-    requires { ⌜ at + g ≤ length (now entries) ⌝ }
-    ensures { λ _. ⌜ now (entries .exit) ≡ written (λ i. v) (now (entries .entry)) at g ⌝ }
-{
-    if g == 1 {
-        entries[at] = v;
-        return;
-    }
-    let mut j = 0;
-    while j < g {
-        entries[at + j] = v;
-        j += 1;
-    }
-}
-
-// The entry of a huge frame that is free whole.
-pub fn whole(h: usize) -> u16
-    requires { ⌜ Huge h ⌝ }
-    ensures { λ r. ⌜ r ≡ 2 ^ h ⌝ }
-{
-    1u16 << h
-}
+ghost use Rattle.rules.specs.Refusals.{Blocked, Started};
+ghost use Rattle.rules.specs.Get.{getHuge, getHugeAt, takeGroup};
+ghost use Rattle.rules.specs.Queries.{isFreeHuge};
+ghost use Rattle.rules.specs.Put.{putHuge};
+use rules::Got;
 
 // The first free group of a tree, from the group of the start row on, wrapping.
 pub fn get(h: usize, n: usize, t: usize, entries: &mut [u16], row: usize, order: usize) -> Got
     requires { ⌜ (Huge h) × (h ≤ order) × ((rl : ℕ) × Started h n t rl (length (now entries)) row order) ⌝ }
-    ensures { λ r. ⌜ out r (now (entries .exit)) ≡ spec.getHuge h n t (now (entries .entry)) row order ⌝ }
+    ensures { λ r. ⌜ out r (now (entries .exit)) ≡ getHuge h n t (now (entries .entry)) row order ⌝ }
 {
     let k = shape::tree_log(t);
     let x = shape::row_huge(h, row);
     let first = shape::tree_huge(k, shape::huge_tree(k, x));
     let g = base::size(order - h);
-    let free = whole(h);
+    let free = entries::whole(h);
     let end = first + t;
     let mut at = x - shape::huge_child(order - h, x);
     let groups = base::size(h + k - order);
     let mut j = 0;
     while j < groups {
-        if entries_are(entries, free, at, g) {
+        if entries::are(entries, free, at, g) {
             return take(h, n, entries, at, g, j + 1);
         }
         at += g;
@@ -83,7 +44,7 @@ pub fn get(h: usize, n: usize, t: usize, entries: &mut [u16], row: usize, order:
 // Takes a free group, unless it ends past N.
 fn take(h: usize, n: usize, entries: &mut [u16], at: usize, g: usize, probes: usize) -> Got
     requires { ⌜ (Huge h) × (at + g ≤ length (now entries)) × (at + g ≤ 1048576) ⌝ }
-    ensures { λ r. ⌜ out r (now (entries .exit)) ≡ spec.takeGroup h n (now (entries .entry)) at g probes ⌝ }
+    ensures { λ r. ⌜ out r (now (entries .exit)) ≡ takeGroup h n (now (entries .entry)) at g probes ⌝ }
 {
     if n < shape::huge_frame(h, at + g) {
         return Got {
@@ -92,7 +53,7 @@ fn take(h: usize, n: usize, entries: &mut [u16], at: usize, g: usize, probes: us
             probes: probes,
         };
     }
-    write_entries(entries, shape::MARK, at, g);
+    entries::fill(entries, shape::MARK, at, g);
     Got {
         code: 0,
         frame: shape::huge_frame(h, at),
@@ -103,12 +64,12 @@ fn take(h: usize, n: usize, entries: &mut [u16], at: usize, g: usize, probes: us
 // The group at a frame, if it is free.
 pub fn get_at(h: usize, entries: &mut [u16], frame: usize, order: usize) -> Got
     requires { ⌜ (Huge h) × (h ≤ order) × ((n : ℕ) × (t : ℕ) × (rl : ℕ) × Blocked h n t rl (length (now entries)) frame order) ⌝ }
-    ensures { λ r. ⌜ out r (now (entries .exit)) ≡ spec.getHugeAt h (now (entries .entry)) frame order ⌝ }
+    ensures { λ r. ⌜ out r (now (entries .exit)) ≡ getHugeAt h (now (entries .entry)) frame order ⌝ }
 {
     let at = shape::frame_huge(h, frame);
     let g = base::size(order - h);
-    if entries_are(entries, whole(h), at, g) {
-        write_entries(entries, shape::MARK, at, g);
+    if entries::are(entries, entries::whole(h), at, g) {
+        entries::fill(entries, shape::MARK, at, g);
         return Got {
             code: 0,
             frame: frame,
@@ -125,12 +86,12 @@ pub fn get_at(h: usize, entries: &mut [u16], frame: usize, order: usize) -> Got
 // Gives back a group that is held whole.
 pub fn put(h: usize, entries: &mut [u16], frame: usize, order: usize) -> u32
     requires { ⌜ (Huge h) × (h ≤ order) × ((n : ℕ) × (t : ℕ) × (rl : ℕ) × Blocked h n t rl (length (now entries)) frame order) ⌝ }
-    ensures { λ r. ⌜ out r (now (entries .exit)) ≡ spec.putHuge h (now (entries .entry)) frame order ⌝ }
+    ensures { λ r. ⌜ out r (now (entries .exit)) ≡ putHuge h (now (entries .entry)) frame order ⌝ }
 {
     let at = shape::frame_huge(h, frame);
     let g = base::size(order - h);
-    if entries_are(entries, shape::MARK, at, g) {
-        write_entries(entries, whole(h), at, g);
+    if entries::are(entries, shape::MARK, at, g) {
+        entries::fill(entries, entries::whole(h), at, g);
         return 0;
     }
     7
@@ -139,11 +100,11 @@ pub fn put(h: usize, entries: &mut [u16], frame: usize, order: usize) -> u32
 // Whether a group is free.
 pub fn is_free(h: usize, entries: &[u16], frame: usize, order: usize) -> bool
     requires { ⌜ (Huge h) × (h ≤ order) × ((n : ℕ) × (t : ℕ) × (rl : ℕ) × Blocked h n t rl (length (now entries)) frame order) ⌝ }
-    ensures { λ r. ⌜ r ≡ spec.isFreeHuge h (now (entries .entry)) frame order ⌝ }
+    ensures { λ r. ⌜ r ≡ isFreeHuge h (now (entries .entry)) frame order ⌝ }
 {
-    entries_are(
+    entries::are(
         entries,
-        whole(h),
+        entries::whole(h),
         shape::frame_huge(h, frame),
         base::size(order - h),
     )

@@ -1,6 +1,6 @@
+pub mod Cases
+pub mod Ends
+pub mod Laws
+pub mod OneField
 pub mod Pastes
 pub mod Texts
-pub mod Cases
-pub mod OneField
-pub mod Laws
-pub mod Ends

@@ -1,3 +1,3 @@
-pub mod Read
 pub mod Answer
 pub mod Input
+pub mod Read

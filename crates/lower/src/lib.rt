@@ -3,31 +3,24 @@
 ghost use mathlib.Core.Path.{_≡_};
 ghost use Rattle.base.specs.Code.{out};
 ghost use Rattle.base.specs.Size.{hugeOrder};
-ghost use Rattle.shape.specs.State.{mem};
-ghost use Rattle.lower.specs.Calls as spec;
-use shape::Got;
-use shape::Stats;
-
-pub mod sized;
-
-// The answer of is_free.
-pub struct IsFree {
-    pub code: u32,
-    pub yes: bool,
-}
+ghost use Rattle.rules.specs.State.{mem};
+ghost use Rattle.rules.specs.Calls as spec;
+use bitfield_rules::Answered;
+use rules::Got;
+use rules::Stats;
 
 // Starts with all frames below N free.
 pub fn free_all(n: usize, t: usize, rows: &mut [u64], entries: &mut [u16]) -> u32
     ensures { λ r. ⌜ out r (mem (now (rows .exit)) (now (entries .exit))) ≡ spec.freeAll hugeOrder n t (mem (now (rows .entry)) (now (entries .entry))) ⌝ }
 {
-    sized::free_all(base::HUGE_ORDER, n, t, rows, entries)
+    lower_h::free_all(base::HUGE_ORDER, n, t, rows, entries)
 }
 
 // Starts with all frames below N held.
 pub fn reserve_all(n: usize, t: usize, rows: &mut [u64], entries: &mut [u16]) -> u32
     ensures { λ r. ⌜ out r (mem (now (rows .exit)) (now (entries .exit))) ≡ spec.reserveAll hugeOrder n t (mem (now (rows .entry)) (now (entries .entry))) ⌝ }
 {
-    sized::reserve_all(base::HUGE_ORDER, n, t, rows, entries)
+    lower_h::reserve_all(base::HUGE_ORDER, n, t, rows, entries)
 }
 
 // Takes the first free block of 2^order frames in the start row's tree.
@@ -41,7 +34,7 @@ pub fn get(
 ) -> Got
     ensures { λ r. ⌜ out r (mem (now (rows .exit)) (now (entries .exit))) ≡ spec.get hugeOrder n t (mem (now (rows .entry)) (now (entries .entry))) row order ⌝ }
 {
-    sized::get(base::HUGE_ORDER, n, t, rows, entries, row, order)
+    lower_h::get(base::HUGE_ORDER, n, t, rows, entries, row, order)
 }
 
 // Takes the block at a frame, or refuses.
@@ -55,7 +48,7 @@ pub fn get_at(
 ) -> Got
     ensures { λ r. ⌜ out r (mem (now (rows .exit)) (now (entries .exit))) ≡ spec.getAt hugeOrder n t (mem (now (rows .entry)) (now (entries .entry))) frame order ⌝ }
 {
-    sized::get_at(base::HUGE_ORDER, n, t, rows, entries, frame, order)
+    lower_h::get_at(base::HUGE_ORDER, n, t, rows, entries, frame, order)
 }
 
 // Gives a block back.
@@ -69,7 +62,7 @@ pub fn put(
 ) -> u32
     ensures { λ r. ⌜ out r (mem (now (rows .exit)) (now (entries .exit))) ≡ spec.put hugeOrder n t (mem (now (rows .entry)) (now (entries .entry))) frame order ⌝ }
 {
-    sized::put(base::HUGE_ORDER, n, t, rows, entries, frame, order)
+    lower_h::put(base::HUGE_ORDER, n, t, rows, entries, frame, order)
 }
 
 // Whether every frame of a block is free.
@@ -80,17 +73,17 @@ pub fn is_free(
     entries: &[u16],
     frame: usize,
     order: usize,
-) -> IsFree
+) -> Answered
     ensures { λ r. ⌜ r ≡ spec.isFree hugeOrder n t (mem (now (rows .entry)) (now (entries .entry))) frame order ⌝ }
 {
-    sized::is_free(base::HUGE_ORDER, n, t, rows, entries, frame, order)
+    lower_h::is_free(base::HUGE_ORDER, n, t, rows, entries, frame, order)
 }
 
 // Free frames, huge frames and trees.
 pub fn stats(n: usize, t: usize, rows: &[u64], entries: &[u16]) -> Stats
     ensures { λ r. ⌜ r ≡ spec.stats hugeOrder n t (mem (now (rows .entry)) (now (entries .entry))) ⌝ }
 {
-    sized::stats(base::HUGE_ORDER, n, t, rows, entries)
+    lower_h::stats(base::HUGE_ORDER, n, t, rows, entries)
 }
 
 // The same at a frame, its huge frame or its tree, as the order says.
@@ -104,5 +97,5 @@ pub fn stats_at(
 ) -> Stats
     ensures { λ r. ⌜ r ≡ spec.statsAt hugeOrder n t (mem (now (rows .entry)) (now (entries .entry))) frame order ⌝ }
 {
-    sized::stats_at(base::HUGE_ORDER, n, t, rows, entries, frame, order)
+    lower_h::stats_at(base::HUGE_ORDER, n, t, rows, entries, frame, order)
 }

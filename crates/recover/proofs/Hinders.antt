@@ -14,21 +14,20 @@ use Rattle.base.specs.Walk.{pick, all}
 use Rattle.base.specs.Code.{unless}
 use Rattle.base.specs.Bits.{blockIs}
 use Rattle.base.proofs.Walks.{all-of, all-not, all-same, all-parts}
-use Rattle.shape.specs.Shape.{mark, hugeOf, whole, entriesNeeded}
-use Rattle.shape.specs.Refuse.{Sized}
-use Rattle.shape.specs.State.{Mem, mem, entryOf, clearOf}
-use Rattle.shape.proofs.Present.{last-present, last-needed, before-whole, behind-absent}
-use Rattle.audit.specs.Audit.{reason}
-use Rattle.audit.proofs.Reasons.{reason-absent, reason-marked, reason-counted, reason-whole}
-use Rattle.huge.specs.Huge.{entriesAre}
-use Rattle.recover.specs.Recover.{hinders, recoverable}
+use Rattle.rules.specs.Numbers.{mark, hugeOf, whole, entriesNeeded}
+use Rattle.rules.specs.Refusals.{Sized}
+use Rattle.rules.specs.State.{Mem, mem, entryOf, clearOf, entriesAre}
+use Rattle.rules.proofs.Present.{last-present, last-needed, before-whole, behind-absent}
+use Rattle.rules.specs.Audit.{reason}
+use Rattle.rules.proofs.Reasons.{reason-absent, reason-marked, reason-counted, reason-whole}
+use Rattle.rules.specs.Recover.{blocksRecovery, recoverable}
 
 -- ---- which reasons hinder
 
 module _ (h n : ℕ) (m : Mem) (x : ℕ) where
   -- a whole huge frame's does not
-  whole-free : (x + 1) * 2 ^ h ≤ n → hinders (reason h n m x) ≡ false
-  whole-free w = ⊎-elim (λ e. ap hinders e) (⊎-elim (λ e. ap hinders e) (λ e. ap hinders e)) (reason-whole h n m x w)
+  whole-free : (x + 1) * 2 ^ h ≤ n → blocksRecovery (reason h n m x) ≡ false
+  whole-free w = ⊎-elim (λ e. ap blocksRecovery e) (⊎-elim (λ e. ap blocksRecovery e) (λ e. ap blocksRecovery e)) (reason-whole h n m x w)
 
   -- a present one's is below 5
   present-below-five : x * 2 ^ h < n → reason h n m x < 5
@@ -45,10 +44,10 @@ module _ (h n : ℕ) (m : Mem) (x : ℕ) where
       lower false t c d p q = q
 
   -- an absent one's does where its entry is not 0
-  absent-free : n ≤ x * 2 ^ h → not (hinders (reason h n m x)) ≡ eqb (entryOf (m .entries) x) 0
-  absent-free l = ap (λ (r : ℕ). not (hinders r)) (reason-absent h n m x l) ∙ five (eqb (entryOf (m .entries) x) 0)
+  absent-free : n ≤ x * 2 ^ h → not (blocksRecovery (reason h n m x)) ≡ eqb (entryOf (m .entries) x) 0
+  absent-free l = ap (λ (r : ℕ). not (blocksRecovery r)) (reason-absent h n m x l) ∙ five (eqb (entryOf (m .entries) x) 0)
     where
-      five : (b : Bool) → not (hinders (unless b 5)) ≡ b
+      five : (b : Bool) → not (blocksRecovery (unless b 5)) ≡ b
       five true = refl
       five false = refl
 
@@ -57,20 +56,20 @@ module _ (h n : ℕ) (m : Mem) (x : ℕ) where
 module _ {h n t : ℕ} (rs es : List ℕ) (s : Sized h n t (length rs) (length es)) {last r : ℕ} (last-is : last ≡ hugeOf h (n - 1))
     (r-is : r ≡ reason h n (mem rs es) last) where
   -- a reason of the last present one that hinders is enough
-  pub hindered-last : hinders r ≡ true → true ≡ not (recoverable h n t (mem rs es))
+  pub blocked-last : blocksRecovery r ≡ true → true ≡ not (recoverable h n t (mem rs es))
   unfolding recoverable
-  hindered-last e =
-      sym (ap not (all-not (λ x. not (hinders (reason h n (mem rs es) x))) (entriesNeeded h n t) 0 last (omega arith) (omega (arith, last-needed s last-is))
+  blocked-last e =
+      sym (ap not (all-not (λ x. not (blocksRecovery (reason h n (mem rs es) x))) (entriesNeeded h n t) 0 last (omega arith) (omega (arith, last-needed s last-is))
       (ap not (rw r-is at e))))
 
   -- without one, the absent entries decide
-  pub hindered-absent : (r ≡ 1 → ⊥) → (r ≡ 3 → ⊥) → {needed : ℕ} {clean : Bool} → needed ≡ entriesNeeded h n t → clean ≡ entriesAre 0 es (last + 1) (needed - (last + 1))
+  pub blocked-absent : (r ≡ 1 → ⊥) → (r ≡ 3 → ⊥) → {needed : ℕ} {clean : Bool} → needed ≡ entriesNeeded h n t → clean ≡ entriesAre 0 es (last + 1) (needed - (last + 1))
       → not clean ≡ not (recoverable h n t (mem rs es))
   unfolding recoverable
-  hindered-absent n1 n3 {needed} {clean} needed-is clean-is = ap not (clean-is ∙ sym split)
+  blocked-absent n1 n3 {needed} {clean} needed-is clean-is = ap not (clean-is ∙ sym split)
     where
       free : ℕ → Bool
-      free x = not (hinders (reason h n (mem rs es) x))
+      free x = not (blocksRecovery (reason h n (mem rs es) x))
 
       present-free : (x : ℕ) → x < last + 1 → free x ≡ true
       present-free x l = elim (decLt x last) [

@@ -1,4 +1,3 @@
-pub mod Mends
 pub mod Hinders
+pub mod Mends
 pub mod Totals
-pub mod Mended

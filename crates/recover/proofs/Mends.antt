@@ -20,10 +20,10 @@ use Rattle.base.proofs.Rests.{quotient-is}
 use Rattle.base.proofs.Sizes.{first-row, rows-frames, frames-fit}
 use Rattle.base.proofs.Rows.{block-rows}
 use Rattle.base.proofs.Parts.{part-long}
-use Rattle.shape.specs.Shape.{mark}
-use Rattle.shape.specs.State.{mem, entryOf, clearOf}
-use Rattle.audit.proofs.Rows.{all-are-clear, one-is-set}
-use Rattle.recover.specs.Recover.{recovered, entryAfter, rowAfter}
+use Rattle.rules.specs.Numbers.{mark}
+use Rattle.rules.specs.State.{mem, entryOf, clearOf}
+use Rattle.rules.proofs.ClearBits.{all-are-clear, one-is-set}
+use Rattle.rules.specs.Recover.{recovered, entryAfter, rowAfter}
 use Rattle.recover.specs.Mend.{entryDiffers, rowsDiffer, mendedAt}
 
 -- ---- the rows of huge frame x
@@ -137,7 +137,7 @@ module _ {h : ℕ} (H : Huge h) (rs es : List ℕ) (x : ℕ) (fits : (j : ℕ) �
     unfolding entryDiffers
     count-replaced n = answer h rs es x true false (ap not (ne-eqb _ _ (λ e. n (sym count-after ∙ sym e)))) same-rows kept-rows (ap (set es x) (sym count-after))
 
-  -- ---- by the clear bits that the entry tells of
+  -- ---- by the clear bits that the entry expects
 
   module _ {told : ℕ} (told-is : told ≡ pick (eqb (entryOf es x) mark) (2 ^ h) (entryOf es x)) where
     told-marked : entryOf es x ≡ mark → told ≡ 2 ^ h

@@ -17,13 +17,13 @@ use Rattle.base.proofs.Walks.{all-of, all-same, count-le, count-same, count-non
 use Rattle.base.proofs.Written.{written-more, written-same, written-in, written-beyond, length-written, written-parts}
 use Rattle.base.proofs.Sizes.{rows-frames}
 use Rattle.base.proofs.Frames.{same-bit}
-use Rattle.shape.specs.Shape.{hugeOf, ceil, rowsNeeded}
-use Rattle.shape.specs.Refuse.{Sized}
-use Rattle.shape.specs.State.{Mem, mem, entryOf, clearOf}
-use Rattle.shape.proofs.Present.{present-is, last-present, last-needed}
-use Rattle.shape.proofs.Lent.{present-rows}
-use Rattle.recover.specs.declared.Recovered.{Recovered}
-use Rattle.recover.specs.Recover.{recovered, recoverable, entryAfter, rowAfter, mended, entriesDiffer, bitfieldsDiffer, recoverAll}
+use Rattle.rules.specs.Numbers.{hugeOf, ceil, rowsNeeded}
+use Rattle.rules.specs.Refusals.{Sized}
+use Rattle.rules.specs.State.{Mem, mem, entryOf, clearOf}
+use Rattle.rules.proofs.Present.{present-is, last-present, last-needed}
+use Rattle.rules.proofs.Lent.{present-rows}
+use Rattle.rules.specs.declared.Recovered.{Recovered}
+use Rattle.rules.specs.Recover.{recovered, recoverable, entryAfter, rowAfter, mended, entriesDiffer, bitfieldsDiffer, recoverAll}
 use Rattle.recover.specs.Mend.{entryDiffers, rowsDiffer, mendedAt}
 use Rattle.recover.proofs.Mends.{Its, its-huge}
 
@@ -165,7 +165,7 @@ module _ {h n t : ℕ} (H : Huge h) (rs es : List ℕ) (s : Sized h n t (length 
       (H, rw (at .entries-long) (omega (arith, s .entries, last-needed s last-is)), rw (at .rows-long) (present-rows H s x (omega (arith, last-present s last-is))))
 
   -- past the last, all is recovered
-  pub recovers : {hindered : Bool} → hindered ≡ not (recoverable h n t (mem rs es)) → hindered ≡ false
+  pub recovers : {is_blocked : Bool} → is_blocked ≡ not (recoverable h n t (mem rs es)) → is_blocked ≡ false
       → {rs′ es′ : List ℕ} {e b x : ℕ} → MendAt h (mem rs es) (last + 1) rs′ es′ e b x → last + 1 ≤ x → out (recovered 0 e b) (mem rs′ es′) ≡ recoverAll h n t (mem rs es)
   unfolding recoverAll mended entryDiffers rowsDiffer
   recovers q going {rs′} {es′} {e} {b} {x} at l =
@@ -179,7 +179,7 @@ module _ {h n t : ℕ} (H : Huge h) (rs es : List ℕ) (s : Sized h n t (length 
       rw (not-false (recoverable h n t (mem rs es)) (sym q ∙ going), changed, cleared, rows-left, entries-left)
 
 -- a huge frame damaged beyond recovery is refused with 8
-pub refuses : (h n t : ℕ) (rs es : List ℕ) {hindered : Bool} → hindered ≡ not (recoverable h n t (mem rs es)) → hindered ≡ true
+pub refuses : (h n t : ℕ) (rs es : List ℕ) {is_blocked : Bool} → is_blocked ≡ not (recoverable h n t (mem rs es)) → is_blocked ≡ true
     → out (recovered 8 0 0) (mem rs es) ≡ recoverAll h n t (mem rs es)
 unfolding recoverAll
 refuses h n t rs es q stopped = rw (not-true (recoverable h n t (mem rs es)) (sym q ∙ stopped))

@@ -1,2 +1,1 @@
-pub mod Recover
 pub mod Mend

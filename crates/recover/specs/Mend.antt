@@ -2,13 +2,13 @@
 use mathlib.Core.Bool.{Bool, not}
 use Prim.Native.Nat.{ℕ, _*_}
 use lib.Dec.{eqb}
-use lib.ListN.{set, getD}
+use lib.ListN.{getD}
 use Rattle.base.specs.Walk.{pick, all, written}
 use Rattle.base.specs.Code.{Out, out}
 use Rattle.base.specs.Size.{rowsOf}
-use Rattle.shape.specs.State.{Mem, mem, entryOf}
-use Rattle.recover.specs.declared.Recovered.{Recovered}
-use Rattle.recover.specs.Recover.{recovered, entryAfter, rowAfter}
+use Rattle.rules.specs.State.{Mem, withRows, withEntry, entryOf}
+use Rattle.rules.specs.declared.Recovered.{Recovered}
+use Rattle.rules.specs.Recover.{recovered, entryAfter, rowAfter}
 
 -- whether the entry of huge frame x is another afterwards
 unfoldable pub entryDiffers : ℕ → Mem → ℕ → Bool
@@ -24,4 +24,4 @@ unfoldable pub mendedAt : ℕ → Mem → ℕ → Out Recovered Mem
 unfolding entryDiffers rowsDiffer
 mendedAt h m x =
     out (recovered 0 (pick (entryDiffers h m x) 1 0) (pick (rowsDiffer h m x) 1 0))
-    (mem (written (rowAfter h m) (m .rows) (x * rowsOf h) (rowsOf h)) (set (m .entries) x (entryAfter h m x)))
+    (withEntry (withRows m (written (rowAfter h m) (m .rows) (x * rowsOf h) (rowsOf h))) x (entryAfter h m x))

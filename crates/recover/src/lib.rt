@@ -7,21 +7,15 @@ ghost use lib.ListN.{length};
 ghost use Rattle.base.specs.Walk.{pick};
 ghost use Rattle.base.specs.Code.{out};
 ghost use Rattle.base.specs.Size.{Huge, rowsOf};
-ghost use Rattle.shape.specs.Shape.{mark};
-ghost use Rattle.shape.specs.Refuse.{Sized};
-ghost use Rattle.shape.specs.State.{mem};
+ghost use Rattle.rules.specs.Numbers.{mark};
+ghost use Rattle.rules.specs.Refusals.{Sized};
+ghost use Rattle.rules.specs.State.{mem};
 ghost use Rattle.recover.specs.Mend as mend;
-ghost use Rattle.recover.specs.Recover as spec;
+ghost use Rattle.rules.specs.Recover as spec;
+use rules::Recovered;
 
-// What recover answers: document 01's number, and how many entries and bitfields it changed.
-pub struct Recovered {
-    pub code: u32,
-    pub entries: usize,
-    pub bitfields: usize,
-}
-
-// The clear bits that an entry tells of: all of the huge frame's under a mark, and otherwise as many as it counts.
-fn told(h: usize, entry: u16) -> usize
+// The clear bits that agree with an entry: all of the huge frame's under a mark, and otherwise as many as it counts.
+fn expected_zeros(h: usize, entry: u16) -> usize
     requires { ⌜ Huge h ⌝ }
     ensures { λ r. ⌜ r ≡ pick (eqb entry mark) (2 ^ h) entry ⌝ }
 {
@@ -39,7 +33,7 @@ fn mend(h: usize, rows: &mut [u64], entries: &mut [u16], x: usize) -> Recovered
 {
     let entry = entries[x];
     let zeros = audit::zeros(h, rows, x);
-    if zeros == told(h, entry) {
+    if zeros == expected_zeros(h, entry) {
         return Recovered {
             code: 0,
             entries: 0,
@@ -65,7 +59,7 @@ fn mend(h: usize, rows: &mut [u64], entries: &mut [u16], x: usize) -> Recovered
 }
 
 // Whether a huge frame has reason 1, 3 or 5. Only the last present one can have 1 or 3, which need frames past N; absent ones have no other than 5.
-fn hindered(h: usize, n: usize, t: usize, rows: &[u64], entries: &[u16]) -> bool
+fn is_blocked(h: usize, n: usize, t: usize, rows: &[u64], entries: &[u16]) -> bool
     requires { ⌜ (Huge h) × Sized h n t (length (now rows)) (length (now entries)) ⌝ }
     ensures { λ r. ⌜ r ≡ not (spec.recoverable h n t (mem (now (rows .entry)) (now (entries .entry)))) ⌝ }
 {
@@ -78,8 +72,8 @@ fn hindered(h: usize, n: usize, t: usize, rows: &[u64], entries: &[u16]) -> bool
         return true;
     }
     let absent = last + 1;
-    let needed = shape::entries_needed(h, shape::tree_log(t), n);
-    !huge::entries_are(entries, 0, absent, needed - absent)
+    let needed = shape::entries_needed(h, n, t);
+    !entries::are(entries, 0, absent, needed - absent)
 }
 
 // Recovers every present huge frame, unless one is damaged beyond it.
@@ -87,7 +81,7 @@ pub fn all(h: usize, n: usize, t: usize, rows: &mut [u64], entries: &mut [u16]) 
     requires { ⌜ (Huge h) × Sized h n t (length (now rows)) (length (now entries)) ⌝ }
     ensures { λ r. ⌜ out r (mem (now (rows .exit)) (now (entries .exit))) ≡ spec.recoverAll h n t (mem (now (rows .entry)) (now (entries .entry))) ⌝ }
 {
-    if hindered(h, n, t, rows, entries) {
+    if is_blocked(h, n, t, rows, entries) {
         return Recovered {
             code: 8,
             entries: 0,

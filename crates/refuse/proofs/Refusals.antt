@@ -11,11 +11,11 @@ use borrow.Author.Tests.{lt-ltb, le-ltb, le-leb, lt-leb, ltb-true, leb-true}
 use Rattle.base.specs.Code.{unless, orElse}
 use Rattle.base.specs.Size.{Huge, rowsOf}
 use Rattle.base.proofs.Codes.{stops, passes, none-of, holds}
-use Rattle.base.proofs.Sizes.{huge-high, mask-mod}
-use Rattle.shape.specs.Shape.{hugeOf, ceil, treeLog, isTree, topOrder, aligned, rowsNeeded, entriesNeeded}
-use Rattle.shape.specs.Refuse.{framesCode, lentCode, sizesCode, orderCode, Sized}
-use Rattle.shape.proofs.Laws.{tree-pow, tree-pos, huge-by-rows}
-use Rattle.shape.proofs.Lent.{sized}
+use Rattle.base.proofs.Sizes.{mask-mod}
+use Rattle.rules.specs.Numbers.{hugeOf, ceil, treeLog, isTree, topOrder, aligned, rowsNeeded, entriesNeeded}
+use Rattle.rules.specs.Refusals.{framesCode, lentCode, sizesCode, orderCode, Sized}
+use Rattle.rules.proofs.Numbers.{tree-pow, tree-pos, huge-by-rows}
+use Rattle.rules.proofs.Lent.{sized}
 
 -- ---- 1: the frames
 
@@ -96,7 +96,7 @@ module _ (h n t rl el o : ℕ) (e : orElse (sizesCode h n t rl el) (orderCode h 
   pub order-low : Huge h → o < 64
   order-low H =
       let top : o ≤ topOrder h t = leb-true o (topOrder h t) (holds _ 3 (none-of (sizesCode h n t rl el) (orderCode h t o) e .1)) in
-      omega (arith, huge-high H, ltb-true (treeLog t) 10 (order-sized .tree))
+      omega (arith, H .high, ltb-true (treeLog t) 10 (order-sized .tree))
 
 -- ---- 5 and 6: the end of a block of s frames, and then its alignment
 

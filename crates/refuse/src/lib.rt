@@ -4,8 +4,8 @@ ghost use mathlib.Core.Bool.{true};
 ghost use Prim.Native.Nat.{_<_};
 ghost use Rattle.base.specs.Code.{orElse};
 ghost use Rattle.base.specs.Size.{Huge};
-ghost use Rattle.shape.specs.Shape.{isTree};
-ghost use Rattle.shape.specs.Refuse.{framesCode, treeCode, lentCode, sizesCode, orderCode, blockCode, startCode, frameCode};
+ghost use Rattle.rules.specs.Numbers.{isTree};
+ghost use Rattle.rules.specs.Refusals.{framesCode, treeCode, lentCode, sizesCode, orderCode, blockCode, startCode, frameCode};
 
 fn frames(n: usize) -> u32
     ensures { λ r. ⌜ r ≡ framesCode n ⌝ }

@@ -73,8 +73,7 @@ fn digest(n: usize, t: usize, rows: &[u64], entries: &[u16]) -> u64 {
     let start: u64 = 0xcbf2_9ce4_8422_2325;
     if n <= shape::FRAMES_MAX {
         if shape::is_tree(t) {
-            let k = shape::tree_log(t);
-            let e = at_most(shape::entries_needed(base::HUGE_ORDER, k, n), entries.len());
+            let e = at_most(shape::entries_needed(base::HUGE_ORDER, n, t), entries.len());
             let r = at_most(shape::rows_needed(base::HUGE_ORDER, n), rows.len());
             return mixed_rows(mixed_entries(start, &entries[..e]), &rows[..r]);
         }

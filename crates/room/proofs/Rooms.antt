@@ -10,10 +10,10 @@ use lib.Pow.{pow-pos}
 use borrow.Author.Tests.{lt-ltb, le-ltb, le-leb, lt-leb}
 use Rattle.base.specs.Walk.{count, written}
 use Rattle.base.proofs.Sizes.{pow-divides}
-use Rattle.shape.specs.Shape.{treeLog, isTree}
-use Rattle.shape.proofs.Trees.{log-pow}
-use Rattle.huge.specs.Huge.{entriesAre}
-use Rattle.room.specs.Room.{treeAt, singles, roomAt, orders, roomOf}
+use Rattle.rules.specs.Numbers.{treeAt, treeLog, isTree, topOrder}
+use Rattle.rules.proofs.Numbers.{tree-pow}
+use Rattle.rules.specs.State.{entriesAre, blocksIn}
+use Rattle.rules.specs.Room.{roomAt, orders, roomOf}
 
 -- ---- groups
 
@@ -23,27 +23,27 @@ group-lent at g c el first j l h e = omega (arith, mul-le-mul-right g h)
 
 -- ---- an order
 
-module _ (h t : ℕ) {k : ℕ} (es : List ℕ) (at o : ℕ) (tree : isTree t ≡ true) (k-is : k ≡ treeLog t) where
-  pub at-singles : o < h → {r : ℕ} → r ≡ singles es t at o → r ≡ roomAt h t es at o
+module _ (h t : ℕ) {top : ℕ} (es : List ℕ) (at o : ℕ) (tree : isTree t ≡ true) (top-is : top ≡ topOrder h t) where
+  pub at-blocks : o < h → {r : ℕ} → r ≡ blocksIn es t at o → r ≡ roomAt h t es at o
   unfolding roomAt
-  at-singles l e = rw (lt-ltb o h l) e
+  at-blocks l e = rw (lt-ltb o h l) e
 
   -- up to the top order c groups of g entries fill the tree
-  module _ (low : h ≤ o) (top : o ≤ h + k) {g c : ℕ} (g-is : g ≡ 2 ^ (o - h)) (c-is : c ≡ 2 ^ (h + k - o)) where
+  module _ (low : h ≤ o) (high : o ≤ top) {g c : ℕ} (g-is : g ≡ 2 ^ (o - h)) (c-is : c ≡ 2 ^ (top - o)) where
     pub groups-fill : c * g ≡ t
     groups-fill =
-        let e : h + k - o ≡ k - (o - h) = omega arith in
-        rw (c-is, g-is, e) (pow-divides (o - h) k (omega arith) ∙ log-pow t tree k-is)
+        let e : top - o ≡ treeLog t - (o - h) = omega arith in
+        rw (c-is, g-is, e) (pow-divides (o - h) (treeLog t) (omega arith) ∙ tree-pow t tree)
 
     pub at-groups : {r : ℕ} → r ≡ count (λ j. entriesAre (2 ^ h) es (at + j * g) g) c 0 → r ≡ roomAt h t es at o
     unfolding roomAt
     at-groups e =
         let all : t / g ≡ c = rw (← groups-fill) (mul-div-cancel c (rw g-is (pow-pos (o - h)))) in
-        rw (le-ltb o h low, ← k-is, le-leb o (h + k) top, ← g-is, all) e
+        rw (le-ltb o h low, ← top-is, le-leb o top high, ← g-is, all) e
 
-  pub at-none : h ≤ o → h + k < o → 0 ≡ roomAt h t es at o
+  pub at-none : h ≤ o → top < o → 0 ≡ roomAt h t es at o
   unfolding roomAt
-  at-none low top = rw (le-ltb o h low, ← k-is, lt-leb o (h + k) top)
+  at-none low past = rw (le-ltb o h low, ← top-is, lt-leb o top past)
 
 -- ---- all orders
 

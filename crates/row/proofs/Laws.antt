@@ -1,13 +1,11 @@
 -- What a caller may conclude of one row's search: the lowest place, and the answer. Assumes nothing.
 use mathlib.Core.Path.{_≡_, refl, sym, ap, _∙_}
-use mathlib.Core.Logic.{_⊎_, ⊎-elim}
 use mathlib.Core.Bool.{Bool, true}
 use Prim.Native.Nat.{ℕ, _+_, _-_, _*_, _/_, _%_, _^_, _≤_, _<_}
 use native.Mathlib.Nat.{mul-mod-left, mul-le-mul-right, lt-of-mul-lt-mul-right, div-add-mod'}
 use native.Mathlib.Omega.{arith}
 use lib.Dec.{eqb, leb, ltb}
-use borrow.Author.Tests.{eqb-true, eqb-false, leb-true, ltb-true, ltb-false, le-leb}
-use denote.Enum.Declared.{tagOf}
+use borrow.Author.Tests.{eqb-true, eqb-false, leb-true, ltb-true}
 use Rattle.base.specs.Walk.{pick, first}
 use Rattle.base.specs.Bits.{bitsAt, overlay}
 use Rattle.base.proofs.Walks.{first-hit, first-le, first-before, pick-case}
@@ -15,7 +13,6 @@ use Rattle.base.proofs.Sizes.{pow-divides}
 use Rattle.row.specs.declared.Found.{Found}
 use Rattle.row.specs.declared.Found.the-variants.{At, Full, BadOrder}
 use Rattle.row.specs.Row.{Numbers, numbers, numbersOf, lowest, firstZeros}
-use Rattle.row.proofs.Found.{the-type}
 
 -- ---- the lowest place
 
@@ -87,20 +84,6 @@ in-row v o p r =
   where
     Says : Numbers → Type 0
     Says x = x ≡ numbers 0 p r → InRow v o p r
-
--- a code other than 0 says that no block is clear, where the order is one of a row's
-not-in-row : (v o : ℕ) → o ≤ 6 → (firstZeros v o .code ≡ 0 → ⊥) → lowest o v ≡ 64
-unfolding firstZeros
-not-in-row v o h =
-    rw (le-leb o 6 h)
-    (pick-case (λ (x : Numbers). (x .code ≡ 0 → ⊥) → lowest o v ≡ 64) (ltb (lowest o v) 64) (λ l n. absurd (n refl))
-    (λ l n. omega (arith, lowest-le o v h, ltb-false (lowest o v) 64 l)))
-
--- so says an answer with no place: the tags of `Full` and `BadOrder`, which a caller's last arm has
-pub passed-row : (f : Found) (v o : ℕ) → o ≤ 6 → numbersOf f ≡ firstZeros v o → (tagOf the-type f ≡ 1) ⊎ (tagOf the-type f ≡ 2) → lowest o v ≡ 64
-passed-row (At p r) v o h e t = absurd (⊎-elim (λ (q : 0 ≡ 1). omega arith) (λ (q : 0 ≡ 2). omega arith) t)
-passed-row Full v o h e t = not-in-row v o h (λ z. omega (arith, ap (λ (x : Numbers). x .code) e))
-passed-row BadOrder v o h e t = not-in-row v o h (λ z. omega (arith, ap (λ (x : Numbers). x .code) e))
 
 -- the answer that has these numbers
 answerOf : Numbers → Found

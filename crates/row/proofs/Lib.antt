@@ -1,5 +1,5 @@
-pub mod Marks
-pub mod Lanes
 pub mod Halves
+pub mod Lanes
 pub mod Laws
+pub mod Marks
 pub mod Past

@@ -1,10 +1,11 @@
 // The numbers of document 01: sizes that follow from the huge order h and the tree size T, and conversions between
-// frames, rows, huge frames and trees. T enters the conversions as its logarithm k, so that none of them divides.
+// frames, rows, huge frames and trees. T enters them by its logarithm k, so that none of them divides.
 ghost use mathlib.Core.Path.{_≡_};
 ghost use mathlib.Core.Bool.{true};
 ghost use Prim.Native.Nat.{_*_, _/_, _%_, _^_, _<_, _≤_};
 ghost use Rattle.base.specs.Size.{Huge, rowsOf};
-ghost use Rattle.shape.specs.Shape.{rowOf, bitOf, hugeOf, treeOf, treeLog, isTree, topOrder, aligned, rowsNeeded, entriesNeeded, initNumber};
+ghost use Rattle.rules.specs.Numbers.{rowOf, bitOf, hugeOf, treeAt, treeLog, isTree, topOrder, aligned, rowsNeeded, entriesNeeded, initNumber};
+use rules::Init;
 
 // The bits of a row.
 pub const ROW_BITS: usize = 64;
@@ -17,27 +18,6 @@ pub const FRAMES_MAX: usize = 1_048_576;
 
 // The most huge frames of a tree.
 pub const TREE_MAX: usize = 512;
-
-// Free frames, huge frames that are free whole, and trees that are, with document 01's number.
-pub struct Stats {
-    pub code: u32,
-    pub free_frames: usize,
-    pub free_huge: usize,
-    pub free_trees: usize,
-}
-
-// What a get answers: document 01's number, the frame where it is 0, and the entries or groups visited.
-pub struct Got {
-    pub code: u32,
-    pub frame: usize,
-    pub probes: usize,
-}
-
-// How a start leaves the frames below N.
-pub enum Init {
-    FreeAll,
-    AllocAll,
-}
 
 // The number that stands for a start in a line of `trace`.
 pub fn init_number(init: Init) -> usize
@@ -108,14 +88,6 @@ pub fn frame_huge(h: usize, frame: usize) -> usize
     frame >> h
 }
 
-// The tree of a frame, where T is 2^k.
-pub fn frame_tree(h: usize, k: usize, frame: usize) -> usize
-    requires { ⌜ (Huge h) × (k < 10) ⌝ }
-    ensures { λ r. ⌜ r ≡ treeOf h (2 ^ k) frame ⌝ }
-{
-    frame >> (h + k)
-}
-
 // The huge frame of a row.
 pub fn row_huge(h: usize, row: usize) -> usize
     requires { ⌜ Huge h ⌝ }
@@ -164,6 +136,15 @@ pub fn tree_huge(k: usize, tree: usize) -> usize
     tree << k
 }
 
+// The first huge frame of a frame's tree.
+pub fn tree_first(h: usize, t: usize, frame: usize) -> usize
+    requires { ⌜ (Huge h) × (isTree t ≡ true) ⌝ }
+    ensures { λ r. ⌜ r ≡ treeAt h t frame ⌝ }
+{
+    let k = tree_log(t);
+    tree_huge(k, frame >> (h + k))
+}
+
 // The rows that n frames need.
 pub fn rows_needed(h: usize, n: usize) -> usize
     requires { ⌜ (Huge h) × (n ≤ 1048576) ⌝ }
@@ -172,10 +153,11 @@ pub fn rows_needed(h: usize, n: usize) -> usize
     ((n + (base::size(h) - 1)) >> h) << (h - 6)
 }
 
-// The entries that n frames need, in trees of 2^k.
-pub fn entries_needed(h: usize, k: usize, n: usize) -> usize
-    requires { ⌜ (Huge h) × (k < 10) × (n ≤ 1048576) ⌝ }
-    ensures { λ r. ⌜ r ≡ entriesNeeded h n (2 ^ k) ⌝ }
+// The entries that n frames need, in trees of t.
+pub fn entries_needed(h: usize, n: usize, t: usize) -> usize
+    requires { ⌜ (Huge h) × (n ≤ 1048576) × (isTree t ≡ true) ⌝ }
+    ensures { λ r. ⌜ r ≡ entriesNeeded h n t ⌝ }
 {
-    ((n + (base::size(h + k) - 1)) >> (h + k)) << k
+    let order = top_order(h, t);
+    ((n + (base::size(order) - 1)) >> order) << tree_log(t)
 }

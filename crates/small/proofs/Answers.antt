@@ -8,10 +8,12 @@ use lib.ListN.{set}
 use borrow.Author.Tests.{eq-eqb, ne-eqb, le-leb, lt-leb}
 use Rattle.base.specs.Code.{out}
 use Rattle.base.specs.Bits.{blockIs, withBits}
-use Rattle.shape.specs.Shape.{mark}
-use Rattle.shape.specs.State.{mem, got, entryOf}
-use Rattle.small.specs.Small.{turned, getSmallAt, putMarked, putCounted, putSmall, isFreeSmall}
-use Rattle.small.proofs.Turns.{turn-done, if-turned, if-left}
+use Rattle.rules.specs.Numbers.{mark}
+use Rattle.rules.specs.State.{mem, entryOf, toggled}
+use Rattle.rules.specs.Get.{got, getSmallAt}
+use Rattle.rules.specs.Put.{putMarked, putCounted, putSmall}
+use Rattle.rules.specs.Queries.{isFreeSmall}
+use Rattle.rules.proofs.BlockTurns.{turn-done, if-turned, if-left}
 
 -- x is the block's huge frame
 module _ (h : ℕ) (rs es : List ℕ) (f o : ℕ) {x : ℕ} (x-is : x ≡ f / 2 ^ h) where
@@ -55,7 +57,7 @@ module _ (h : ℕ) (rs es : List ℕ) (f o : ℕ) {x : ℕ} (x-is : x ≡ f / 2 
       -- that is enough for them
       module _ (enough : s ≤ entryOf es x) where
         -- where the block was turned, a get is done
-        pub get-done : {r : ℕ} {left : List ℕ} → out r left ≡ turned rs f o false → r ≡ 0
+        pub get-done : {r : ℕ} {left : List ℕ} → out r left ≡ toggled rs f o false → r ≡ 0
             → out (got 0 f 1) (mem left (set es x (entryOf es x - s))) ≡ getSmallAt h (mem rs es) f o
         unfolding getSmallAt
         get-done turn z =
@@ -64,7 +66,7 @@ module _ (h : ℕ) (rs es : List ℕ) (f o : ℕ) {x : ℕ} (x-is : x ≡ f / 2 
 
         module _ {full : ℕ} (full-is : full ≡ 2 ^ h) where
           -- where it was left, and the count is above that of a huge frame, a get is refused with 8
-          pub get-damaged : {r : ℕ} {left : List ℕ} → out r left ≡ turned rs f o false → (r ≡ 0 → ⊥) → full < entryOf es x
+          pub get-damaged : {r : ℕ} {left : List ℕ} → out r left ≡ toggled rs f o false → (r ≡ 0 → ⊥) → full < entryOf es x
               → out (got 8 0 1) (mem left es) ≡ getSmallAt h (mem rs es) f o
           unfolding getSmallAt
           get-damaged turn n l =
@@ -72,7 +74,7 @@ module _ (h : ℕ) (rs es : List ℕ) (f o : ℕ) {x : ℕ} (x-is : x ≡ f / 2 
               rw (d .1, d .0, ← x-is, ne-eqb (entryOf es x) mark counted, ← s-is, le-leb s (entryOf es x) enough, ← full-is, lt-leb (entryOf es x) full l)
 
           -- where it was left, and the count is not, with 7
-          pub get-held : {r : ℕ} {left : List ℕ} → out r left ≡ turned rs f o false → (r ≡ 0 → ⊥) → entryOf es x ≤ full
+          pub get-held : {r : ℕ} {left : List ℕ} → out r left ≡ toggled rs f o false → (r ≡ 0 → ⊥) → entryOf es x ≤ full
               → out (got 7 0 1) (mem left es) ≡ getSmallAt h (mem rs es) f o
           unfolding getSmallAt
           get-held turn n l =
@@ -97,7 +99,7 @@ module _ (h : ℕ) (rs es : List ℕ) (f o : ℕ) {x : ℕ} (x-is : x ≡ f / 2 
     put-over l = rw (← x-is, ← s-is, ← full-is, lt-leb (entryOf es x) (full - s) l)
 
     -- that has room for the block
-    module _ (room : entryOf es x ≤ full - s) {r : ℕ} {left : List ℕ} (turn : out r left ≡ turned rs f o true) where
+    module _ (room : entryOf es x ≤ full - s) {r : ℕ} {left : List ℕ} (turn : out r left ≡ toggled rs f o true) where
       -- where the block was turned, it is done
       pub put-done : r ≡ 0 → out 0 (mem left (set es x (entryOf es x + s))) ≡ putCounted h (mem rs es) f o
       unfolding putCounted
@@ -113,10 +115,10 @@ module _ (h : ℕ) (rs es : List ℕ) (f o : ℕ) {x : ℕ} (x-is : x ≡ f / 2 
           rw (d .1, d .0, ← x-is, ← s-is, ← full-is, le-leb (entryOf es x) (full - s) room)
 
   -- ---- a put into a mark: the whole huge frame, from its first frame g on, was to be set
-  module _ {g : ℕ} (g-is : g ≡ f / 2 ^ h * 2 ^ h) {r : ℕ} {left : List ℕ} (turn : out r left ≡ turned rs g h false) where
+  module _ {g : ℕ} (g-is : g ≡ f / 2 ^ h * 2 ^ h) {r : ℕ} {left : List ℕ} (turn : out r left ≡ toggled rs g h false) where
     -- where it was set, the block is set with it, and so it is cleared
     pub put-opened : r ≡ 0 → blockIs true (withBits true rs g (g + 2 ^ h)) f (2 ^ o) ≡ true
-        → {s : ℕ} → s ≡ 2 ^ o → {r′ : ℕ} {last : List ℕ} → out r′ last ≡ turned left f o true → out 0 (mem last (set es x s)) ≡ putMarked h (mem rs es) f o
+        → {s : ℕ} → s ≡ 2 ^ o → {r′ : ℕ} {last : List ℕ} → out r′ last ≡ toggled left f o true → out 0 (mem last (set es x s)) ≡ putMarked h (mem rs es) f o
     unfolding putMarked
     put-opened z is s-is turn′ =
         let d = if-turned rs g h false turn z in

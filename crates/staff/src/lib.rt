@@ -3,31 +3,25 @@
 ghost use mathlib.Core.Path.{_≡_};
 ghost use Rattle.base.specs.Code.{out};
 ghost use Rattle.base.specs.Size.{hugeOrder};
-ghost use Rattle.shape.specs.State.{mem, frame as frameRefusal};
-ghost use Rattle.staff.specs.Calls as spec;
-use audit::Fault;
-use recover::Recovered;
-
-pub mod sized;
-
-// The room of a tree: the blocks of each order, 0 to 18, that its entries promise.
-pub struct Counts {
-    pub code: u32,
-    pub counts: [usize; 19],
-}
+ghost use Rattle.rules.specs.State.{mem};
+ghost use Rattle.rules.specs.Refusals.{frameRefusal};
+ghost use Rattle.rules.specs.Calls as spec;
+use rules::Counts;
+use rules::Fault;
+use rules::Recovered;
 
 // The first faulty huge frame, and why it is.
 pub fn audit(n: usize, t: usize, rows: &[u64], entries: &[u16]) -> Fault
     ensures { λ r. ⌜ r ≡ spec.audit hugeOrder n t (mem (now (rows .entry)) (now (entries .entry))) ⌝ }
 {
-    sized::audit(base::HUGE_ORDER, n, t, rows, entries)
+    staff_h::audit(base::HUGE_ORDER, n, t, rows, entries)
 }
 
 // Puts counts right by the bits, and clears the bits under a mark.
 pub fn recover(n: usize, t: usize, rows: &mut [u64], entries: &mut [u16]) -> Recovered
     ensures { λ r. ⌜ out r (mem (now (rows .exit)) (now (entries .exit))) ≡ spec.recover hugeOrder n t (mem (now (rows .entry)) (now (entries .entry))) ⌝ }
 {
-    sized::recover(base::HUGE_ORDER, n, t, rows, entries)
+    staff_h::recover(base::HUGE_ORDER, n, t, rows, entries)
 }
 
 // The room of a frame's tree.
@@ -35,7 +29,7 @@ pub fn room(n: usize, t: usize, rows: &[u64], entries: &[u16], frame: usize) -> 
     ensures { λ r. ⌜ out (r .code) (r .counts) ≡ spec.room hugeOrder n t (mem (now (rows .entry)) (now (entries .entry))) frame ⌝ }
 {
     let mut counts = [0usize; 19];
-    let code = sized::room(base::HUGE_ORDER, n, t, rows, entries, frame, &mut counts);
+    let code = staff_h::room(base::HUGE_ORDER, n, t, rows, entries, frame, &mut counts);
     Counts {
         code: code,
         counts: counts,
@@ -46,7 +40,7 @@ pub fn room(n: usize, t: usize, rows: &[u64], entries: &[u16], frame: usize) -> 
 pub fn tree_run<'a>(n: usize, t: usize, rows: &[u64], entries: &'a [u16], frame: usize) -> &'a [u16]
     ensures { λ r. ⌜ now r ≡ spec.treeRun hugeOrder n t (mem (now (rows .entry)) (now (entries .entry))) frame ⌝ }
 {
-    sized::tree_run(base::HUGE_ORDER, n, t, rows, entries, frame)
+    staff_h::tree_run(base::HUGE_ORDER, n, t, rows, entries, frame)
 }
 
 // The number with which the tree run of a frame is refused, or 0.

@@ -1,27 +1,26 @@
 -- The needed entries: those of whole huge frames, the partial one's, and the others. Assumes nothing.
 use mathlib.Core.Path.{_≡_, sym, ap, _∙_}
-use mathlib.Core.List.{List, _++_}
+use mathlib.Core.List.{List}
 use Prim.Native.Nat.{ℕ, _+_, _-_, _*_, _^_, _≤_, _<_}
 use native.Mathlib.Decide.{decLt, ℕ-discrete}
-use native.Mathlib.Nat.{sub-zero, zero-add, mul-le-mul-right}
+use native.Mathlib.Nat.{zero-add, mul-le-mul-right}
 use native.Mathlib.Omega.{arith}
-use lib.ListN.{length, getD, set, take, drop, replicate, length-set}
+use lib.ListN.{length, getD, set, length-set}
 use lib.Seq.{getD-set-same, getD-set-other, ext-getD}
 use borrow.Author.Tests.{le-leb, lt-leb}
 use Rattle.base.specs.Walk.{pick, written}
 use Rattle.base.proofs.Written.{length-written, written-in, written-beyond, written-same, written-parts}
-use Rattle.shape.specs.Shape.{hugeOf, whole, treeLog, entriesNeeded}
-use Rattle.shape.specs.Refuse.{Sized}
-use Rattle.shape.proofs.Laws.{tree-pos}
-use Rattle.shape.proofs.Needed.{whole-needed, needed-is}
-use Rattle.shape.proofs.Present.{present-entry, huge-ends}
-use Rattle.starts.specs.Starts.{freeEntry}
-use Rattle.starts.proofs.Rows.{begins-low, part-filled}
+use Rattle.rules.specs.Numbers.{hugeOf, whole, entriesNeeded}
+use Rattle.rules.specs.Refusals.{Sized}
+use Rattle.rules.proofs.Numbers.{tree-pos}
+use Rattle.rules.proofs.Needed.{whole-needed}
+use Rattle.rules.proofs.Present.{present-entry, huge-ends}
+use Rattle.rules.specs.Starts.{freeEntry}
+use Rattle.starts.proofs.Rows.{begins-low}
 
 -- the huge frames that lie wholly below N have needed entries
-pub wholes-needed : {h n t rl el w log needed : ℕ} → Sized h n t rl el → w ≡ hugeOf h n → log ≡ treeLog t → needed ≡ entriesNeeded h n (2 ^ log) → w ≤ needed
-wholes-needed {h} {n} {t} {w = w} s w-is log-is all-is =
-    omega (arith, whole-needed h n t w (tree-pos t (s .tree)) (begins-low h n w-is), needed-is s log-is all-is)
+pub wholes-needed : {h n t rl el w : ℕ} → Sized h n t rl el → w ≡ hugeOf h n → w ≤ entriesNeeded h n t
+wholes-needed {h} {n} {t} {w = w} s w-is = whole-needed h n t w (tree-pos t (s .tree)) (begins-low h n w-is)
 
 -- and so has a partial one, which begins below N
 pub partial-needed : {h n t rl el w first : ℕ} → Sized h n t rl el → w ≡ hugeOf h n → first ≡ w * 2 ^ h → (first ≡ n → ⊥) → w < entriesNeeded h n t
@@ -40,21 +39,17 @@ module _ (h n : ℕ) {w : ℕ} (w-is : w ≡ hugeOf h n) where
       let m : (w + 1) * 2 ^ h ≤ (x + 1) * 2 ^ h = mul-le-mul-right (2 ^ h) (omega arith) in
       omega (arith, huge-ends h n w (sym w-is) .1)
 
-  -- the part below w made v and that from there on 0, as the code has it
-  pub wholes-written : (es : List ℕ) (v k : ℕ) {ys zs : List ℕ} → w ≤ k → k ≤ length es → ys ≡ replicate (length (take (w - 0) es)) v
-      → zs ≡ replicate (length (take (k - w) (drop w (ys ++ drop (w - 0) es)))) 0
-      → take w (ys ++ drop (w - 0) es) ++ (zs ++ drop (k - w) (drop w (ys ++ drop (w - 0) es))) ≡ written (λ x. pick (whole h n x) v 0) es 0 k
-  wholes-written es v k {ys} {zs} l lent p q =
-      let low : ys ++ drop (w - 0) es ≡ written (λ x. pick (whole h n x) v 0) es 0 (w - 0) =
-      part-filled es v 0 w (omega arith) (omega arith) p
-      ∙ written-same (λ _. v) (λ x. pick (whole h n x) v 0) es 0 (w - 0) (λ x _ b. let b′ : x < w = omega arith in rw (le-leb _ _ (whole-before x b′))) in
-      let long : k ≤ length (ys ++ drop (w - 0) es) = rw low (omega (arith, length-written (λ x. pick (whole h n x) v 0) es 0 (w - 0))) in
-      let both : written (λ x. pick (whole h n x) v 0) (written (λ x. pick (whole h n x) v 0) es 0 w) w (k - w) ≡ written (λ x. pick (whole h n x) v 0) es 0 (w + (k - w)) =
-      rw zero-add at (written-parts (λ x. pick (whole h n x) v 0) es 0 w (k - w)) in
+  -- the first w of k entries made v, and the others 0
+  pub wholes-written : (es : List ℕ) (v k : ℕ) → w ≤ k → written (λ _. 0) (written (λ _. v) es 0 w) w (k - w) ≡ written (λ x. pick (whole h n x) v 0) es 0 k
+  wholes-written es v k l =
       let ends : w + (k - w) ≡ k = omega arith in
-      part-filled (ys ++ drop (w - 0) es) 0 w k l long q
-      ∙ written-same (λ _. 0) (λ x. pick (whole h n x) v 0) (ys ++ drop (w - 0) es) w (k - w) (λ x a _. rw (lt-leb _ _ (past-end x a)))
-      ∙ rw (low, sub-zero) (both ∙ ap (written (λ x. pick (whole h n x) v 0) es 0) ends)
+      written-same (λ _. 0) f (written (λ _. v) es 0 w) w (k - w) (λ x a _. rw (lt-leb _ _ (past-end x a)))
+      ∙ ap (λ (front : List ℕ). written f front w (k - w))
+      (written-same (λ _. v) f es 0 w (λ x _ b. let below : x < w = omega arith in rw (le-leb _ _ (whole-before x below))))
+      ∙ rw (zero-add, ends) at (written-parts f es 0 w (k - w))
+    where
+      f : ℕ → ℕ
+      f x = pick (whole h n x) v 0
 
   -- a whole huge frame, and an absent one, has its free frames
   free-other : (x : ℕ) → (x ≡ w → n ≡ w * 2 ^ h) → pick (whole h n x) (2 ^ h) 0 ≡ freeEntry h n x

@@ -1,2 +1,2 @@
-pub mod Rows
 pub mod Entries
+pub mod Rows

@@ -16,16 +16,16 @@ use Rattle.base.proofs.Masks.{overlay-none}
 use Rattle.base.proofs.Parts.{part-long}
 use Rattle.base.proofs.Writes.{length-with, getD-with, with-beyond}
 use Rattle.base.proofs.Written.{length-written, written-in, written-before, written-beyond, solid-part}
-use Rattle.shape.specs.Shape.{hugeOf, rowsNeeded}
-use Rattle.shape.proofs.Present.{rows-enough}
-use Rattle.starts.specs.Starts.{rowsFrom}
+use Rattle.rules.specs.Numbers.{hugeOf, rowsNeeded}
+use Rattle.rules.proofs.Present.{rows-enough}
+use Rattle.rules.specs.Starts.{rowsFrom}
 
 -- the huge frame of n begins at n or below
 pub begins-low : (h n : ℕ) {x : ℕ} → x ≡ hugeOf h n → x * 2 ^ h ≤ n
 begins-low h n e = rw e (div-mul-le-self n (2 ^ h))
 
 -- the part from a up to e made v throughout and put back in its place, as the code has it
-pub part-filled : (l : List ℕ) (v a e : ℕ) {ys : List ℕ} → a ≤ e → e ≤ length l → ys ≡ replicate (length (take (e - a) (drop a l))) v
+part-filled : (l : List ℕ) (v a e : ℕ) {ys : List ℕ} → a ≤ e → e ≤ length l → ys ≡ replicate (length (take (e - a) (drop a l))) v
     → take a l ++ (ys ++ drop (e - a) (drop a l)) ≡ written (λ _. v) l a (e - a)
 part-filled l v a e h fits q = rw (q, part-long l a (e - a) (omega arith)) (solid-part l v a (e - a) (omega arith))
 

@@ -1,13 +1,13 @@
 // The two starts: every needed row and entry is written, and nothing beyond them.
 ghost use mathlib.Core.Path.{_≡_};
 ghost use Prim.Native.Nat.{ℕ, _≤_};
-ghost use lib.ListN.{length, replicate};
+ghost use lib.ListN.{length};
 ghost use Rattle.base.specs.Walk.{pick, written};
 ghost use Rattle.base.specs.Size.{Huge};
-ghost use Rattle.shape.specs.Shape.{rowsNeeded, entriesNeeded, whole};
-ghost use Rattle.shape.specs.Refuse.{Sized};
-ghost use Rattle.shape.specs.State.{mem};
-ghost use Rattle.starts.specs.Starts as spec;
+ghost use Rattle.rules.specs.Numbers.{rowsNeeded, entriesNeeded, whole};
+ghost use Rattle.rules.specs.Refusals.{Sized};
+ghost use Rattle.rules.specs.State.{mem};
+ghost use Rattle.rules.specs.Starts as spec;
 
 // Clears the bits of the frames below c, and sets those of the needed rows from there on.
 fn write_rows(h: usize, n: usize, rows: &mut [u64], c: usize)
@@ -25,35 +25,24 @@ fn write_rows(h: usize, n: usize, rows: &mut [u64], c: usize)
     rows[border] = (u64::MAX >> clear) << clear;
 }
 
-// Makes every entry v.
-fn fill_entries(entries: &mut [u16], v: u16)
-    ensures { λ _. ⌜ now (entries .exit) ≡ replicate (length (now (entries .entry))) v ⌝ }
-{
-    let mut x = 0;
-    while x < entries.len() {
-        entries[x] = v;
-        x += 1;
-    }
-}
-
 // Makes the entry of each huge frame that lies wholly below N v, and every other needed one 0.
 fn write_entries(h: usize, n: usize, t: usize, entries: &mut [u16], v: u16)
     requires { ⌜ (Huge h) × ((rl : ℕ) × Sized h n t rl (length (now entries))) ⌝ }
     ensures { λ _. ⌜ now (entries .exit) ≡ written (λ x. pick (whole h n x) v 0) (now (entries .entry)) 0 (entriesNeeded h n t) ⌝ }
 {
-    let needed = shape::entries_needed(h, shape::tree_log(t), n);
+    let needed = shape::entries_needed(h, n, t);
     let wholes = shape::frame_huge(h, n);
-    fill_entries(&mut entries[0..wholes], v);
-    fill_entries(&mut entries[wholes..needed], 0);
+    entries::fill(entries, v, 0, wholes);
+    entries::fill(entries, 0, wholes, needed - wholes);
 }
 
 // All frames below N free.
 pub fn free_all(h: usize, n: usize, t: usize, rows: &mut [u64], entries: &mut [u16])
     requires { ⌜ (Huge h) × Sized h n t (length (now rows)) (length (now entries)) ⌝ }
-    ensures { λ _. ⌜ mem (now (rows .exit)) (now (entries .exit)) ≡ spec.freeAll h n t (mem (now (rows .entry)) (now (entries .entry))) ⌝ }
+    ensures { λ _. ⌜ mem (now (rows .exit)) (now (entries .exit)) ≡ spec.allFree h n t (mem (now (rows .entry)) (now (entries .entry))) ⌝ }
 {
     write_rows(h, n, rows, n);
-    write_entries(h, n, t, entries, 1 << h);
+    write_entries(h, n, t, entries, entries::whole(h));
     let partial = shape::frame_huge(h, n);
     let first = shape::huge_frame(h, partial);
     if first == n {
@@ -65,7 +54,7 @@ pub fn free_all(h: usize, n: usize, t: usize, rows: &mut [u64], entries: &mut [u
 // All frames below N held.
 pub fn reserve_all(h: usize, n: usize, t: usize, rows: &mut [u64], entries: &mut [u16])
     requires { ⌜ (Huge h) × Sized h n t (length (now rows)) (length (now entries)) ⌝ }
-    ensures { λ _. ⌜ mem (now (rows .exit)) (now (entries .exit)) ≡ spec.reserveAll h n t (mem (now (rows .entry)) (now (entries .entry))) ⌝ }
+    ensures { λ _. ⌜ mem (now (rows .exit)) (now (entries .exit)) ≡ spec.allHeld h n t (mem (now (rows .entry)) (now (entries .entry))) ⌝ }
 {
     write_rows(h, n, rows, shape::huge_frame(h, shape::frame_huge(h, n)));
     write_entries(h, n, t, entries, shape::MARK);

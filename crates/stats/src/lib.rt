@@ -8,52 +8,13 @@ ghost use lib.ListN.{length};
 ghost use Rattle.base.specs.Walk.{count};
 ghost use Rattle.base.specs.Size.{Huge};
 ghost use Rattle.base.specs.Bits.{bitIs};
-ghost use Rattle.shape.specs.Shape.{rowOf, hugeOf, treeOf, isTree};
-ghost use Rattle.shape.specs.Refuse.{Sized, Framed};
-ghost use Rattle.shape.specs.State.{mem, entryOf, freeOf};
-ghost use Rattle.stats.specs.Stats as spec;
-use shape::Stats;
+ghost use Rattle.rules.specs.Numbers.{rowOf, hugeOf, treeAt, isTree};
+ghost use Rattle.rules.specs.Refusals.{Sized, Framed};
+ghost use Rattle.rules.specs.State.{mem, entryOf, freeOf};
+ghost use Rattle.rules.specs.Queries as spec;
+use rules::Stats;
 
-// An entry's free count. It and what is summed of it are 32 bits wide, so that the compiler takes several entries at a time.
-fn free(entry: u16) -> u32
-    ensures { λ r. ⌜ r ≡ freeOf entry ⌝ }
-{
-    if entry == shape::MARK {
-        0
-    } else {
-        entry as u32
-    }
-}
-
-// The free frames of the k entries from at on.
-fn free_in(entries: &[u16], k: usize, at: usize) -> usize
-    requires { ⌜ (at + k ≤ length (now entries)) × (k < 65536) ⌝ }
-    ensures { λ r. ⌜ r ≡ spec.freeIn (now (entries .entry)) k at ⌝ }
-{
-    let mut sum: u32 = 0;
-    let mut i = 0;
-    while i < k {
-        sum += free(entries[at + i]);
-        i += 1;
-    }
-    sum as usize
-}
-
-// Their free huge frames, where a count above 2^h counts as often as 2^h goes into it.
-fn huge_in(h: usize, entries: &[u16], k: usize, at: usize) -> usize
-    requires { ⌜ (Huge h) × (at + k ≤ length (now entries)) × (k < 65536) ⌝ }
-    ensures { λ r. ⌜ r ≡ spec.hugeIn h (now (entries .entry)) k at ⌝ }
-{
-    let mut sum: u32 = 0;
-    let mut i = 0;
-    while i < k {
-        sum += free(entries[at + i]) >> h;
-        i += 1;
-    }
-    sum as usize
-}
-
-// How many of the first k entries are v. The count is 16 bits wide for the same reason.
+// How many of the first k entries are v. The count is 16 bits wide, so that the compiler takes several entries at a time.
 fn count_of(entries: &[u16], v: u16, k: usize) -> usize
     requires { ⌜ (k ≤ length (now entries)) × (k < 65536) ⌝ }
     ensures { λ r. ⌜ r ≡ count (λ x. eqb (entryOf (now (entries .entry)) x) v) k 0 ⌝ }
@@ -77,7 +38,7 @@ fn free_trees(entries: &[u16], t: usize, frames: usize, k: usize) -> usize
     let mut sum: usize = 0;
     let mut y = 0;
     while y < k {
-        if free_in(entries, t, y * t) == frames {
+        if entries::blocks(entries, t, y * t, 0) == frames {
             sum += 1;
         }
         y += 1;
@@ -104,17 +65,16 @@ pub fn all(h: usize, n: usize, t: usize, entries: &[u16]) -> Stats
     requires { ⌜ (Huge h) × ((rl : ℕ) × Sized h n t rl (length (now entries))) ⌝ }
     ensures { λ r. ⌜ r ≡ spec.statsAll h n t (now (entries .entry)) ⌝ }
 {
-    let log = shape::tree_log(t);
-    let needed = shape::entries_needed(h, log, n);
-    let free = free_in(entries, needed, 0);
-    let huge = count_of(entries, 1 << h, needed);
+    let needed = shape::entries_needed(h, n, t);
+    let free = entries::blocks(entries, needed, 0, 0);
+    let huge = count_of(entries, entries::whole(h), needed);
     let mut trees = huge;
     if t != 1 {
         trees = free_trees_by_size(
             entries,
             t,
-            base::size(h + log),
-            shape::huge_tree(log, needed),
+            base::size(shape::top_order(h, t)),
+            shape::huge_tree(shape::tree_log(t), needed),
         );
     }
     Stats {
@@ -130,7 +90,7 @@ fn free_of(h: usize, entries: &[u16], frame: usize) -> usize
     requires { ⌜ (Huge h) × (hugeOf h frame < length (now entries)) ⌝ }
     ensures { λ r. ⌜ r ≡ freeOf (entryOf (now (entries .entry)) (hugeOf h frame)) ⌝ }
 {
-    free(entries[shape::frame_huge(h, frame)]) as usize
+    entries::free(entries[shape::frame_huge(h, frame)]) as usize
 }
 
 // Whether a frame's bit is clear.
@@ -143,7 +103,7 @@ fn is_clear(rows: &[u64], frame: usize) -> bool
 }
 
 // At a frame alone. Count and bit are both read before either is tested, so that the compiler needs no branch: one on a frame's
-// state would be foreseen wrongly as often as not.
+// state would be mispredicted half of the time.
 fn at_frame(h: usize, rows: &[u64], entries: &[u16], frame: usize) -> Stats
     requires { ⌜ (Huge h) × (hugeOf h frame < length (now entries)) × (rowOf frame < length (now rows)) ⌝ }
     ensures { λ r. ⌜ r ≡ spec.atFrame h (mem (now (rows .entry)) (now (entries .entry))) frame ⌝ }
@@ -164,23 +124,22 @@ fn at_frame(h: usize, rows: &[u64], entries: &[u16], frame: usize) -> Stats
 
 // At a frame's tree, where no row is looked at.
 fn at_tree(h: usize, t: usize, entries: &[u16], frame: usize) -> Stats
-    requires { ⌜ (Huge h) × (isTree t ≡ true) × ((treeOf h t frame + 1) * t ≤ length (now entries)) ⌝ }
+    requires { ⌜ (Huge h) × (isTree t ≡ true) × (treeAt h t frame + t ≤ length (now entries)) ⌝ }
     ensures { λ r. ⌜ ((rows : List ℕ) → r ≡ spec.atTree h t (mem rows (now (entries .entry))) frame) ⌝ }
 {
-    let log = shape::tree_log(t);
-    let first = shape::tree_huge(log, shape::frame_tree(h, log, frame));
-    let free = free_in(entries, t, first);
+    let first = shape::tree_first(h, t, frame);
+    let free = entries::blocks(entries, t, first, 0);
     Stats {
         code: 0,
         free_frames: free,
-        free_huge: huge_in(h, entries, t, first),
-        free_trees: free >> (h + log),
+        free_huge: entries::blocks(entries, t, first, h),
+        free_trees: free >> shape::top_order(h, t),
     }
 }
 
 // The same. A tree of two entries is summed with no loop, as the compiler is given its size as a number.
 fn at_tree_by_size(h: usize, t: usize, entries: &[u16], frame: usize) -> Stats
-    requires { ⌜ (Huge h) × (isTree t ≡ true) × ((treeOf h t frame + 1) * t ≤ length (now entries)) ⌝ }
+    requires { ⌜ (Huge h) × (isTree t ≡ true) × (treeAt h t frame + t ≤ length (now entries)) ⌝ }
     ensures { λ r. ⌜ ((rows : List ℕ) → r ≡ spec.atTree h t (mem rows (now (entries .entry))) frame) ⌝ }
 {
     if t == 2 {

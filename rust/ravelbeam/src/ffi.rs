@@ -2,9 +2,9 @@
 //! unsafe in this crate.
 //!
 //! They accept any numbers and any contents of the slices, and write nothing but the slices that they are
-//! lent for writing and the lent numbers (crates/capi has their contracts). What they ask of a caller holds
-//! in every block below: a slice goes as its own pointer and length, a slice that is written is borrowed by
-//! `&mut`, and the lent numbers are the function's own.
+//! lent for writing and the lent numbers (the repository's crates/ravelbeam has their contracts). What they
+//! ask of a caller holds in every block below: a slice goes as its own pointer and length, a slice that is
+//! written is borrowed by `&mut`, and the lent numbers are the function's own.
 
 use crate::bitfield::Rows;
 use crate::calls::*;

@@ -2,9 +2,9 @@
 //! blocks up to a whole tree of huge frames, and takes them back.
 //!
 //! The calls are written in Rattle, in which every function is proved to meet its contract, and linked from
-//! the archive `libcapi.a`; this crate gives them Rust's types, under the names that they have in llfree-rs,
-//! whose reservation level is to stand on them. The repository's docs/PROMISES.md has what is proved of each.
-//! It is for a single core: a caller with several puts a [`Lower`] behind a lock.
+//! the archive `libravelbeam.a`; this crate gives them Rust's types, under the names that they have in
+//! llfree-rs, whose reservation level is to stand on them. The repository's docs/PROMISES.md has what is
+//! proved of each. It is for a single core: a caller with several puts a [`Lower`] behind a lock.
 //!
 //! The painter draws in whole huge frames, and the log writes its notes in single frames:
 //!
@@ -26,10 +26,10 @@
 //!
 //! # Linking
 //!
-//! The archive is the repository's `target/staticlib/libcapi.a`, which `oracle/archive` makes; another folder
-//! is named by `RAVELBEAM_LIB_DIR`. It is for x86-64 and uses the registers of SSE2, has no state of its own,
-//! allocates nothing, and needs `memcpy` and `memset`: a C library has them, and on targets without one Rust
-//! brings its own.
+//! The archive is the repository's `target/staticlib/libravelbeam.a`, which `tools/archive` makes; another
+//! folder is named by `RAVELBEAM_LIB_DIR`. It is for x86-64 and uses the registers of SSE2, has no state of
+//! its own, allocates nothing, and needs `memcpy` and `memset`: a C library has them, and on targets without
+//! one Rust brings its own.
 
 #![no_std]
 #![deny(unsafe_op_in_unsafe_fn, missing_docs)]

@@ -2,7 +2,7 @@
 
 // Not all of its numbers are of use here.
 #[allow(dead_code)]
-#[path = "../../../oracle/random.rs"]
+#[path = "../../../oracle/shared/random.rs"]
 mod random;
 
 use std::ops::Range;

@@ -1,10 +1,9 @@
 -- `audit::all` meets its contract. The loop's invariant: no huge frame before x is faulty. Assumes nothing.
 use Prim.Native.Nat.{_-_}
 use native.Mathlib.Omega.{arith}
-use Rattle.shape.specs.State.{mem}
-use Rattle.shape.proofs.Trees.{log-low}
-use Rattle.shape.proofs.Needed.{needed-is}
-use Rattle.audit.proofs.Audits.{AuditAt, audit-start, audit-more, audit-found, audit-passed}
+use borrow.Author.Needs.{needs}
+use Rattle.rules.specs.State.{mem}
+use Rattle.rules.proofs.AuditSteps.{AuditAt, audit-start, audit-more, audit-found, audit-passed}
 use Rattle.audit.proofs.all.Statement.{statement}
 use Rattle.audit.proofs.all.Tie as tie
 
@@ -14,20 +13,15 @@ Inv-loop h n t rows entries needed x₀ x = AuditAt h n t (mem rows entries) nee
 abbrev μ-loop : tie.MeasureT-loop
 μ-loop h n t rows entries needed x₀ x = needed - x
 
-tree-log-requires : tie.Need-tree-log-requires Inv-loop μ-loop
-tree-log-requires c κs = c .before .before .pre .1 .tree
-
 entries-needed-requires : tie.Need-entries-needed-requires Inv-loop μ-loop
-entries-needed-requires c κs =
-    let p = c .before .before .before .pre in
-    (p .0, log-low _ (p .1 .tree) (c .tree-log .ensures), p .1 .most)
+entries-needed-requires c κs = search needs
 
 loop-holds : tie.Need-loop-holds Inv-loop μ-loop
-loop-holds c = audit-start (needed-is (c .before .before .before .before .pre .1) (c .before .tree-log .ensures) (c .entries-needed .ensures))
+loop-holds c = audit-start (c .entries-needed .ensures)
 
 reason-requires : tie.Need-reason-requires Inv-loop μ-loop
 reason-requires c κs =
-    let s = c .before .before .before .before .before .before in
+    let s = c .before .before .before .before .before in
     (s .pre .0, (s .args .t, (s .pre .1, rw (c .before .loop .inv .all) at (c .loop-test .taken))))
 
 returns : tie.Need-returns Inv-loop μ-loop
@@ -51,7 +45,6 @@ all-spec =
     (tie.spec
     Inv-loop
     μ-loop
-    tree-log-requires
     entries-needed-requires
     loop-holds
     reason-requires

@@ -1,8 +1,7 @@
 -- `audit::marked_reason` meets its contract: all bits are clear exactly if the clear ones are as many as the huge frame has. Assumes nothing.
 use native.Mathlib.Omega.{arith}
 use borrow.Author.Needs.{needs}
-use Rattle.base.proofs.Sizes.{huge-high}
-use Rattle.shape.proofs.Needed.{frames-word}
+use Rattle.rules.proofs.Needed.{frames-word}
 use Rattle.audit.proofs.Cases.{marked-partial, marked-torn, marked-clear}
 use Rattle.audit.proofs.marked_reason.Statement.{statement}
 use Rattle.audit.proofs.marked_reason.Tie as tie
@@ -22,7 +21,7 @@ zeros-requires : tie.Need-zeros-requires
 zeros-requires c κs = search needs
 
 size-requires : tie.Need-size-requires
-size-requires c κs = omega (arith, huge-high (c .before .before .before .before .pre .0))
+size-requires c κs = omega (arith, c .before .before .before .before .pre .0 .high)
 
 returns-2 : tie.Need-returns-2
 returns-2 c =

@@ -2,8 +2,8 @@
 use mathlib.Core.Path.{sym, _∙_}
 use native.Mathlib.Omega.{arith}
 use borrow.Author.Needs.{needs}
-use Rattle.shape.proofs.Needed.{frames-word}
-use Rattle.audit.proofs.Rows.{none-past, past-asked, past-by-rows}
+use Rattle.rules.proofs.Needed.{frames-word}
+use Rattle.rules.proofs.ClearBits.{none-past, past-asked, past-by-rows}
 use Rattle.audit.proofs.past_is_set.Statement.{statement}
 use Rattle.audit.proofs.past_is_set.Tie as tie
 

@@ -4,9 +4,9 @@ use lib.ListN.{length}
 use native.Mathlib.Omega.{arith}
 use borrow.Author.Needs.{needs}
 use Rattle.base.specs.Size.{Huge, rowsOf}
-use Rattle.shape.specs.State.{mem}
-use Rattle.shape.proofs.Lent.{present-rows}
-use Rattle.shape.proofs.Needed.{frames-word, entry-low}
+use Rattle.rules.specs.State.{mem}
+use Rattle.rules.proofs.Lent.{present-rows}
+use Rattle.rules.proofs.Needed.{frames-word, entry-low}
 use Rattle.audit.proofs.Cases.{absent-other, absent-right, present-marked, present-counted}
 use Rattle.audit.proofs.reason.Statement.{statement}
 use Rattle.audit.proofs.reason.Tie as tie

@@ -5,8 +5,7 @@ use native.Mathlib.Nat.{add-sub-cancel-left}
 use native.Mathlib.Omega.{arith}
 use borrow.Author.Needs.{needs}
 use Rattle.base.specs.Size.{rowsOf}
-use Rattle.base.proofs.Sizes.{huge-low, huge-high}
-use Rattle.audit.proofs.Rows.{part-fits, clear-by-part}
+use Rattle.rules.proofs.ClearBits.{part-fits, clear-by-part}
 use Rattle.audit.proofs.zeros.Statement.{statement}
 use Rattle.audit.proofs.zeros.Tie as tie
 
@@ -18,10 +17,10 @@ huge-row-requires : tie.Need-huge-row-requires
 huge-row-requires c κs = search needs
 
 sub-size : tie.Need-sub-size
-sub-size c = omega (arith, huge-low (c .before .before .pre .0))
+sub-size c = omega (arith, c .before .before .pre .0 .low)
 
 size-requires : tie.Need-size-requires
-size-requires c κs = omega (arith, huge-high (c .before .before .pre .0))
+size-requires c κs = omega (arith, c .before .before .pre .0 .high)
 
 add-b : tie.Need-add-b
 add-b c = search needs

@@ -8,12 +8,13 @@ use borrow.Author.Needs.{needs}
 use borrow.Author.Tests.{ltb-true}
 use lib.ListN.{length}
 use Rattle.base.specs.Size.{rowsOf}
-use Rattle.base.proofs.Sizes.{huge-high}
 use Rattle.base.proofs.Walks.{FirstAt, first-start, first-found, first-more, first-none}
-use Rattle.huge.specs.Huge.{entriesAre, groupOf, groupAt}
-use Rattle.shape.proofs.Laws.{huge-by-rows}
-use Rattle.huge.proofs.Groups.{order-low, Tree, tree-low, tree-groups, groups-are, group-starts, group-ends, group-next, group-wraps}
-use Rattle.huge.proofs.Cases.{get-found, get-none}
+use Rattle.rules.specs.State.{entriesAre}
+use Rattle.rules.specs.Numbers.{groupOf}
+use Rattle.rules.specs.Get.{groupAt}
+use Rattle.rules.proofs.Numbers.{huge-by-rows}
+use Rattle.rules.proofs.GroupSteps.{order-low, Tree, tree-low, tree-groups, groups-are, group-starts, group-ends, group-next, group-wraps}
+use Rattle.rules.proofs.GroupCases.{get-found, get-none}
 use Rattle.huge.proofs.get.Statement.{statement}
 use Rattle.huge.proofs.get.Tie as tie
 
@@ -74,7 +75,7 @@ sub-at c = rw (c .huge-child .ensures) (mod-le _ _)
 add-size : tie.Need-add-size Inv-loop μ-loop
 add-size c =
     let k = c .before .before .before .before .before .before in
-    omega (arith, huge-high (k .before .before .pre .0), log-low k)
+    omega (arith, k .before .before .pre .0 .high, log-low k)
 
 sub-size-2 : tie.Need-sub-size-2 Inv-loop μ-loop
 sub-size-2 c =
@@ -127,14 +128,14 @@ lent : (a : tie.At-loop Inv-loop μ-loop) → a .loop .at + wide (a .before) ≤
 lent a = rw (a .loop .inv .0) (omega (arith, ends a, tree (a .before) .ends))
 
 -- whether group j is free is what was asked
-answer : (c : tie.After-entries-are Inv-loop μ-loop) → let a = c .before .before .before in let s = start (a .before) in
-    entriesAre (2 ^ s .args .h) (s .args .entries .now) (groupAt (s .args .t) (wide (a .before)) (huge (a .before)) (a .loop .j)) (wide (a .before)) ≡ c .entries-are .result
+answer : (c : tie.After-are Inv-loop μ-loop) → let a = c .before .before .before in let s = start (a .before) in
+    entriesAre (2 ^ s .args .h) (s .args .entries .now) (groupAt (s .args .t) (wide (a .before)) (huge (a .before)) (a .loop .j)) (wide (a .before)) ≡ c .are .result
 answer c =
     let a = c .before .before .before in
-    sym (rw (a .before .before .before .whole .ensures, a .loop .inv .0, a .loop .inv .1) at (c .entries-are .ensures))
+    sym (rw (a .before .before .before .whole .ensures, a .loop .inv .0, a .loop .inv .1) at (c .are .ensures))
 
-entries-are-requires : tie.Need-entries-are-requires Inv-loop μ-loop
-entries-are-requires c κs = lent (c .before .before)
+are-requires : tie.Need-are-requires Inv-loop μ-loop
+are-requires c κs = lent (c .before .before)
 
 add-take : tie.Need-add-take Inv-loop μ-loop
 add-take c = search needs
@@ -212,7 +213,7 @@ get-spec =
     sub-size-2
     size-requires-2
     loop-holds
-    entries-are-requires
+    are-requires
     add-take
     take-requires
     same-length

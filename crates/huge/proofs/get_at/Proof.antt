@@ -2,8 +2,8 @@
 use mathlib.Core.Path.{sym, _∙_}
 use native.Mathlib.Omega.{arith}
 use borrow.Author.Needs.{needs}
-use Rattle.huge.proofs.Groups.{order-low, group-lent}
-use Rattle.huge.proofs.Cases.{get-at-done, get-at-held}
+use Rattle.rules.proofs.GroupSteps.{order-low, group-lent}
+use Rattle.rules.proofs.GroupCases.{get-at-done, get-at-held}
 use Rattle.huge.proofs.get_at.Statement.{statement}
 use Rattle.huge.proofs.get_at.Tie as tie
 
@@ -21,14 +21,14 @@ size-requires c κs =
 whole-requires : tie.Need-whole-requires
 whole-requires c κs = search needs
 
-entries-are-requires : tie.Need-entries-are-requires
-entries-are-requires c κs =
+are-requires : tie.Need-are-requires
+are-requires c κs =
     let g = c .before .before in
     let pre = g .before .before .before .pre in
     group-lent (pre .0) (pre .1) (pre .2 .3) (g .before .frame-huge .ensures) (g .size .ensures)
 
-write-entries-requires : tie.Need-write-entries-requires
-write-entries-requires c κs =
+fill-requires : tie.Need-fill-requires
+fill-requires c κs =
     let g = c .before .before .before .before .before in
     let pre = g .before .before .before .pre in
     group-lent (pre .0) (pre .1) (pre .2 .3) (g .before .frame-huge .ensures) (g .size .ensures)
@@ -42,9 +42,9 @@ returns c =
     let w = t .before .before in
     let g = w .before .before in
     let s = g .before .before .before .args in
-    rw (c .before .before .write-entries .ensures)
+    rw (c .before .before .fill .ensures)
     (get-at-done (s .h) (s .entries .now) (s .frame) (s .order) _ _ (g .before .frame-huge .ensures) (g .size .ensures) _ (w .whole .ensures)
-    (sym (t .before .entries-are .ensures) ∙ t .if1 .taken))
+    (sym (t .before .are .ensures) ∙ t .if1 .taken))
 
 same-length-2 : tie.Need-same-length-2
 same-length-2 c = search needs
@@ -55,7 +55,7 @@ returns-2 c =
     let g = w .before .before in
     let s = g .before .before .before .args in
     get-at-held (s .h) (s .entries .now) (s .frame) (s .order) _ _ (g .before .frame-huge .ensures) (g .size .ensures) _ (w .whole .ensures)
-    (sym (c .before .entries-are .ensures) ∙ c .if1 .left)
+    (sym (c .before .are .ensures) ∙ c .if1 .left)
 
 pub get-at-spec : {M : Type 1} → statement M
 get-at-spec =
@@ -65,8 +65,8 @@ get-at-spec =
     sub-size
     size-requires
     whole-requires
-    entries-are-requires
-    write-entries-requires
+    are-requires
+    fill-requires
     same-length
     returns
     same-length-2

@@ -2,8 +2,8 @@
 use mathlib.Core.Path.{_∙_}
 use native.Mathlib.Omega.{arith}
 use borrow.Author.Needs.{needs}
-use Rattle.huge.proofs.Groups.{order-low, group-lent}
-use Rattle.huge.proofs.Cases.{free-by-entries}
+use Rattle.rules.proofs.GroupSteps.{order-low, group-lent}
+use Rattle.rules.proofs.GroupCases.{free-by-entries}
 use Rattle.huge.proofs.is_free.Statement.{statement}
 use Rattle.huge.proofs.is_free.Tie as tie
 
@@ -21,8 +21,8 @@ size-requires c κs =
     let b = c .before .before .before .pre .2 .3 in
     omega (arith, order-low _ (b .sized) (b .top))
 
-entries-are-requires : tie.Need-entries-are-requires
-entries-are-requires c κs =
+are-requires : tie.Need-are-requires
+are-requires c κs =
     let pre = c .before .before .before .before .pre in
     group-lent (pre .0) (pre .1) (pre .2 .3) (c .before .frame-huge .ensures) (c .size .ensures)
 
@@ -31,8 +31,8 @@ returns c =
     let at = c .before .before in
     let w = at .before in
     let s = w .before .before .args in
-    c .entries-are .ensures
+    c .are .ensures
     ∙ free-by-entries (s .h) (s .entries .now) (s .frame) (s .order) _ _ (at .frame-huge .ensures) (c .before .size .ensures) _ (w .whole .ensures)
 
 pub is-free-spec : {M : Type 1} → statement M
-is-free-spec = tie.close (tie.spec whole-requires frame-huge-requires sub-size size-requires entries-are-requires returns)
+is-free-spec = tie.close (tie.spec whole-requires frame-huge-requires sub-size size-requires are-requires returns)

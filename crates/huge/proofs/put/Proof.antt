@@ -2,8 +2,8 @@
 use mathlib.Core.Path.{sym, _∙_}
 use native.Mathlib.Omega.{arith}
 use borrow.Author.Needs.{needs}
-use Rattle.huge.proofs.Groups.{order-low, group-lent}
-use Rattle.huge.proofs.Cases.{put-done, put-refused}
+use Rattle.rules.proofs.GroupSteps.{order-low, group-lent}
+use Rattle.rules.proofs.GroupCases.{put-done, put-refused}
 use Rattle.huge.proofs.put.Statement.{statement}
 use Rattle.huge.proofs.put.Tie as tie
 
@@ -18,8 +18,8 @@ size-requires c κs =
     let b = c .before .before .pre .2 .3 in
     omega (arith, order-low _ (b .sized) (b .top))
 
-entries-are-requires : tie.Need-entries-are-requires
-entries-are-requires c κs =
+are-requires : tie.Need-are-requires
+are-requires c κs =
     let g = c .before in
     let pre = g .before .before .before .pre in
     group-lent (pre .0) (pre .1) (pre .2 .3) (g .before .frame-huge .ensures) (g .size .ensures)
@@ -27,8 +27,8 @@ entries-are-requires c κs =
 whole-requires : tie.Need-whole-requires
 whole-requires c κs = search needs
 
-write-entries-requires : tie.Need-write-entries-requires
-write-entries-requires c κs =
+fill-requires : tie.Need-fill-requires
+fill-requires c κs =
     let g = c .before .before .before .before .before in
     let pre = g .before .before .before .pre in
     group-lent (pre .0) (pre .1) (pre .2 .3) (g .before .frame-huge .ensures) (g .size .ensures)
@@ -42,9 +42,9 @@ returns c =
     let t = w .before .before in
     let g = t .before .before .before in
     let s = g .before .before .before .args in
-    rw (c .before .before .write-entries .ensures)
+    rw (c .before .before .fill .ensures)
     (put-done (s .h) (s .entries .now) (s .frame) (s .order) _ _ (g .before .frame-huge .ensures) (g .size .ensures) _ (w .whole .ensures)
-    (sym (t .before .entries-are .ensures) ∙ t .if1 .taken))
+    (sym (t .before .are .ensures) ∙ t .if1 .taken))
 
 same-length-2 : tie.Need-same-length-2
 same-length-2 c = search needs
@@ -53,7 +53,7 @@ returns-2 : tie.Need-returns-2
 returns-2 c =
     let g = c .before .before .before in
     let s = g .before .before .before .args in
-    put-refused (s .h) (s .entries .now) (s .frame) (s .order) _ _ (g .before .frame-huge .ensures) (g .size .ensures) (sym (c .before .entries-are .ensures) ∙ c .if1 .left)
+    put-refused (s .h) (s .entries .now) (s .frame) (s .order) _ _ (g .before .frame-huge .ensures) (g .size .ensures) (sym (c .before .are .ensures) ∙ c .if1 .left)
 
 pub put-spec : {M : Type 1} → statement M
 put-spec =
@@ -62,9 +62,9 @@ put-spec =
     frame-huge-requires
     sub-size
     size-requires
-    entries-are-requires
+    are-requires
     whole-requires
-    write-entries-requires
+    fill-requires
     same-length
     returns
     same-length-2

@@ -5,7 +5,7 @@ use native.Mathlib.Nat.{mul-le-mul}
 use native.Mathlib.Omega.{arith}
 use borrow.Author.Needs.{needs}
 use Rattle.base.proofs.Sizes.{frames-fit}
-use Rattle.huge.proofs.Cases.{take-done, take-past}
+use Rattle.rules.proofs.GroupCases.{take-done, take-past}
 use Rattle.huge.proofs.take.Statement.{statement}
 use Rattle.huge.proofs.take.Tie as tie
 
@@ -23,8 +23,8 @@ returns c =
     let s = c .before .before .before in
     take-past (s .args .h) (s .args .n) (s .args .entries .now) (s .args .at) (s .args .g) (s .args .probes) (rw (c .before .huge-frame .ensures) at (c .if1 .taken))
 
-write-entries-requires : tie.Need-write-entries-requires
-write-entries-requires c κs = search needs
+fill-requires : tie.Need-fill-requires
+fill-requires c κs = search needs
 
 huge-frame-requires-2 : tie.Need-huge-frame-requires-2
 huge-frame-requires-2 c κs = search needs
@@ -37,7 +37,7 @@ returns-2 c =
     let w = c .before .before .before in
     let f = w .before .before .before in
     let s = f .before .before in
-    rw (c .huge-frame2 .ensures, w .write-entries .ensures)
+    rw (c .huge-frame2 .ensures, w .fill .ensures)
     (take-done (s .args .h) (s .args .n) (s .args .entries .now) (s .args .at) (s .args .g) (s .args .probes) (rw (f .huge-frame .ensures) at (w .before .before .if1 .left)))
 
 pub take-spec : {M : Type 1} → statement M
@@ -47,7 +47,7 @@ take-spec =
     add-huge-frame
     huge-frame-requires
     returns
-    write-entries-requires
+    fill-requires
     huge-frame-requires-2
     same-length
     returns-2)

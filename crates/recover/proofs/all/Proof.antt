@@ -3,8 +3,8 @@
 use Prim.Native.Nat.{_+_, _-_, _≤_, _<_}
 use native.Mathlib.Omega.{arith}
 use borrow.Author.Needs.{needs}
-use Rattle.shape.specs.State.{mem}
-use Rattle.shape.proofs.Present.{last-low}
+use Rattle.rules.specs.State.{mem}
+use Rattle.rules.proofs.Present.{last-low}
 use Rattle.recover.proofs.Totals.{MendAt, mend-start, mend-more, mend-asked, totals-low, recovers, refuses}
 use Rattle.recover.proofs.all.Statement.{statement}
 use Rattle.recover.proofs.all.Tie as tie
@@ -15,8 +15,8 @@ Inv-loop h n t rows₀ entries₀ present changed₀ cleared₀ x₀ rows entrie
 abbrev μ-loop : tie.MeasureT-loop
 μ-loop h n t rows₀ entries₀ present changed₀ cleared₀ x₀ rows entries changed cleared x = present - x
 
-hindered-requires : tie.Need-hindered-requires Inv-loop μ-loop
-hindered-requires c κs = search needs
+is-blocked-requires : tie.Need-is-blocked-requires Inv-loop μ-loop
+is-blocked-requires c κs = search needs
 
 same-length : tie.Need-same-length Inv-loop μ-loop
 same-length c = search needs
@@ -25,7 +25,7 @@ same-length-2 : tie.Need-same-length-2 Inv-loop μ-loop
 same-length-2 c = search needs
 
 returns : tie.Need-returns Inv-loop μ-loop
-returns c = refuses _ _ _ _ _ (c .before .hindered .ensures) (c .if1 .taken)
+returns c = refuses _ _ _ _ _ (c .before .is-blocked .ensures) (c .if1 .taken)
 
 sub-frame-huge : tie.Need-sub-frame-huge Inv-loop μ-loop
 sub-frame-huge c = search needs
@@ -89,7 +89,7 @@ returns-2 : tie.Need-returns-2 Inv-loop μ-loop
 returns-2 c =
     let f = c .before .before in
     let pre = f .before .before .before .before .before .before .before .pre in
-    recovers (pre .0) _ _ (pre .1) (f .frame-huge .ensures) (f .before .before .hindered .ensures) (f .before .if1 .left) (c .before .loop .inv) (c .loop-test .left)
+    recovers (pre .0) _ _ (pre .1) (f .frame-huge .ensures) (f .before .before .is-blocked .ensures) (f .before .if1 .left) (c .before .loop .inv) (c .loop-test .left)
 
 pub all-spec : {M : Type 1} → statement M
 all-spec =
@@ -97,7 +97,7 @@ all-spec =
     (tie.spec
     Inv-loop
     μ-loop
-    hindered-requires
+    is-blocked-requires
     same-length
     same-length-2
     returns

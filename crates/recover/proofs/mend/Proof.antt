@@ -1,9 +1,8 @@
--- `recover::mend` meets its contract: whether the clear bits are those that the entry tells of decides what becomes of it and of the rows. Assumes nothing.
+-- `recover::mend` meets its contract: whether the clear bits agree with the entry decides what becomes of it and of the rows. Assumes nothing.
 use mathlib.Core.Path.{_∙_}
 use native.Mathlib.Nat.{add-sub-cancel-left}
 use native.Mathlib.Omega.{arith}
 use borrow.Author.Needs.{needs}
-use Rattle.base.proofs.Sizes.{huge-low, huge-high}
 use Rattle.recover.proofs.Mends.{zeros-fit, agrees, clears, replaces}
 use Rattle.recover.proofs.mend.Statement.{statement}
 use Rattle.recover.proofs.mend.Tie as tie
@@ -17,8 +16,8 @@ slice-read-entry c = search needs
 zeros-requires : tie.Need-zeros-requires
 zeros-requires c κs = search needs
 
-told-requires : tie.Need-told-requires
-told-requires c κs = search needs
+expected-zeros-requires : tie.Need-expected-zeros-requires
+expected-zeros-requires c κs = search needs
 
 same-length : tie.Need-same-length
 same-length c = search needs
@@ -27,16 +26,16 @@ returns : tie.Need-returns
 returns c =
     let z = c .before .before in
     let k = z .before .before .before .before in
-    agrees (k .before .pre .0) _ _ _ (λ j. k .slice-known .given j .fits) (z .zeros .ensures) (c .before .told .ensures) (c .if1 .taken)
+    agrees (k .before .pre .0) _ _ _ (λ j. k .slice-known .given j .fits) (z .zeros .ensures) (c .before .expected-zeros .ensures) (c .if1 .taken)
 
 huge-row-requires : tie.Need-huge-row-requires
 huge-row-requires c κs = search needs
 
 sub-size : tie.Need-sub-size
-sub-size c = omega (arith, huge-low (c .before .before .before .before .before .before .before .before .before .pre .0))
+sub-size c = omega (arith, c .before .before .before .before .before .before .before .before .before .pre .0 .low)
 
 size-requires : tie.Need-size-requires
-size-requires c κs = omega (arith, huge-high (c .before .before .before .before .before .before .before .before .before .pre .0))
+size-requires c κs = omega (arith, c .before .before .before .before .before .before .before .before .before .pre .0 .high)
 
 add-b : tie.Need-add-b
 add-b c = search needs
@@ -65,7 +64,7 @@ returns-2 c =
     let m = a .before in
     let z = m .before .before .before in
     let k = z .before .before .before .before in
-    clears (k .before .pre .0) _ _ _ (λ j. k .slice-known .given j .fits) (z .zeros .ensures) (m .before .before .told .ensures) (m .before .if1 .left) (m .if2 .taken)
+    clears (k .before .pre .0) _ _ _ (λ j. k .slice-known .given j .fits) (z .zeros .ensures) (m .before .before .expected-zeros .ensures) (m .before .if1 .left) (m .if2 .taken)
     (k .before .pre .2) (a .huge-row .ensures) (add-sub-cancel-left _ _ ∙ c .before .before .before .before .size .ensures) (c .before .before .fill-rows .ensures)
 
 cast-entries : tie.Need-cast-entries
@@ -89,7 +88,7 @@ returns-3 : tie.Need-returns-3
 returns-3 c =
     let z = c .before .before .before in
     let k = z .before .before .before .before in
-    replaces (k .before .pre .0) _ _ _ (λ j. k .slice-known .given j .fits) (z .zeros .ensures) (c .before .before .told .ensures) (c .before .if1 .left) (c .if2 .left)
+    replaces (k .before .pre .0) _ _ _ (λ j. k .slice-known .given j .fits) (z .zeros .ensures) (c .before .before .expected-zeros .ensures) (c .before .if1 .left) (c .if2 .left)
 
 pub mend-spec : {M : Type 1} → statement M
 mend-spec =
@@ -98,7 +97,7 @@ mend-spec =
     mul-entry
     slice-read-entry
     zeros-requires
-    told-requires
+    expected-zeros-requires
     same-length
     returns
     huge-row-requires

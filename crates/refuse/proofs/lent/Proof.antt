@@ -1,6 +1,6 @@
 -- `refuse::lent` meets its contract: the rows and the entries that N needs, told by the last huge frame. Assumes nothing.
 use borrow.Author.Needs.{needs}
-use Rattle.shape.proofs.Laws.{tree-pos}
+use Rattle.rules.proofs.Numbers.{tree-pos}
 use Rattle.refuse.proofs.Refusals.{rows-short, entries-short, both-lent}
 use Rattle.refuse.proofs.lent.Statement.{statement}
 use Rattle.refuse.proofs.lent.Tie as tie

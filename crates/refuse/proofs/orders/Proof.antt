@@ -2,7 +2,7 @@
 use mathlib.Core.Path.{sym, _∙_}
 use borrow.Author.Needs.{needs}
 use Rattle.base.proofs.Codes.{stops, passes}
-use Rattle.shape.proofs.Lent.{sized}
+use Rattle.rules.proofs.Lent.{sized}
 use Rattle.refuse.proofs.Refusals.{order-within, order-past}
 use Rattle.refuse.proofs.orders.Statement.{statement}
 use Rattle.refuse.proofs.orders.Tie as tie

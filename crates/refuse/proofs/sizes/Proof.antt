@@ -4,7 +4,7 @@ use mathlib.Core.Bool.{true}
 use Prim.Native.Nat.{_<_}
 use borrow.Author.Needs.{needs}
 use Rattle.base.proofs.Codes.{stops, passes, holds}
-use Rattle.shape.specs.Shape.{isTree}
+use Rattle.rules.specs.Numbers.{isTree}
 use Rattle.refuse.proofs.Refusals.{frames-some}
 use Rattle.refuse.proofs.sizes.Statement.{statement}
 use Rattle.refuse.proofs.sizes.Tie as tie

@@ -1,31 +1,22 @@
 -- `replay::digest` is safe and ends: what the digest is made of lies in the lent rows and entries. Assumes nothing.
 use mathlib.Core.Path.{sym, _∙_}
-use Prim.Native.Nat.{_<_}
 use native.Mathlib.Omega.{arith}
 use lib.Seq.{length-take-le}
 use borrow.Author.Needs.{needs}
-use borrow.Author.Tests.{ltb-true}
-use Rattle.base.specs.Size.{nine}
-use Rattle.shape.specs.Shape.{treeLog}
 use Rattle.replay.proofs.digest.Statement.{statement}
 use Rattle.replay.proofs.digest.Tie as tie
 
 is-tree-requires : tie.Need-is-tree-requires
 is-tree-requires c κs = search needs
 
-tree-log-requires : tie.Need-tree-log-requires
-tree-log-requires c κs = sym (c .before .is-tree .ensures) ∙ c .if2 .taken
-
 entries-needed-requires : tie.Need-entries-needed-requires
-entries-needed-requires c κs =
-    let low : treeLog (c .before .before .before .before .before .before .args .t) < 10 = ltb-true _ 10 (sym (c .before .before .is-tree .ensures) ∙ c .before .if2 .taken) in
-    (nine, omega (arith, c .tree-log .ensures), c .before .before .before .if1 .taken)
+entries-needed-requires c κs = (record { low = omega arith; high = omega arith }, c .before .before .if1 .taken, sym (c .before .is-tree .ensures) ∙ c .if2 .taken)
 
 at-most-requires : tie.Need-at-most-requires
 at-most-requires c κs = search needs
 
 rows-needed-requires : tie.Need-rows-needed-requires
-rows-needed-requires c κs = (nine, c .before .before .before .before .before .if1 .taken)
+rows-needed-requires c κs = (record { low = omega arith; high = omega arith }, c .before .before .before .before .if1 .taken)
 
 at-most-requires-2 : tie.Need-at-most-requires-2
 at-most-requires-2 c κs = search needs
@@ -56,7 +47,6 @@ digest-spec =
     tie.close
     (tie.spec
     is-tree-requires
-    tree-log-requires
     entries-needed-requires
     at-most-requires
     rows-needed-requires

@@ -1,45 +1,31 @@
 -- `room::at_order` meets its contract: below the huge order by free counts, up to the top order by groups, and none above. Assumes nothing.
+use mathlib.Core.Path.{refl}
 use native.Mathlib.Omega.{arith}
-use borrow.Author.Needs.{needs}
-use Rattle.base.proofs.Sizes.{huge-high}
-use Rattle.shape.proofs.Laws.{tree-high}
-use Rattle.shape.proofs.Trees.{log-low}
-use Rattle.room.proofs.Rooms.{at-singles, at-groups, at-none, groups-fill}
+use Rattle.rules.proofs.Numbers.{tree-high}
+use Rattle.rules.proofs.Trees.{top-low}
+use Rattle.room.proofs.Rooms.{at-blocks, at-groups, at-none, groups-fill}
 use Rattle.room.proofs.at_order.Statement.{statement}
 use Rattle.room.proofs.at_order.Tie as tie
 
-singles-requires : tie.Need-singles-requires
-singles-requires c κs =
+blocks-requires : tie.Need-blocks-requires
+blocks-requires c κs =
     let pre = c .before .before .pre in
-    (pre .3, tree-high _ (pre .1), omega (arith, huge-high (pre .0)))
+    (pre .3, omega (arith, tree-high _ (pre .1)), omega (arith, pre .0 .high))
 
 returns : tie.Need-returns
 returns c =
-    let s = c .before .before .before in
-    at-singles _ _ _ _ _ (s .pre .1) (s .pre .2) (c .before .if1 .taken) (c .singles .ensures)
-
-add-if2 : tie.Need-add-if2
-add-if2 c =
-    let pre = c .before .before .pre in
-    omega (arith, huge-high (pre .0), log-low _ (pre .1) (pre .2))
+    let pre = c .before .before .before .pre in
+    at-blocks _ _ _ _ _ (pre .1) (pre .2) (c .before .if1 .taken) (c .blocks2 .ensures)
 
 size-requires : tie.Need-size-requires
 size-requires c κs =
     let pre = c .before .before .before .pre in
-    omega (arith, huge-high (pre .0), log-low _ (pre .1) (pre .2))
-
-add-size : tie.Need-add-size
-add-size c =
-    let pre = c .before .before .before .before .pre in
-    omega (arith, huge-high (pre .0), log-low _ (pre .1) (pre .2))
-
-sub-size : tie.Need-sub-size
-sub-size c = search needs
+    omega (arith, top-low _ (pre .1) refl (pre .0))
 
 size-requires-2 : tie.Need-size-requires-2
 size-requires-2 c κs =
     let pre = c .before .before .before .before .pre in
-    omega (arith, huge-high (pre .0), log-low _ (pre .1) (pre .2))
+    omega (arith, top-low _ (pre .1) refl (pre .0))
 
 groups-requires : tie.Need-groups-requires
 groups-requires c κs =
@@ -61,16 +47,4 @@ returns-3 c =
     at-none _ _ _ _ _ (pre .1) (pre .2) (c .before .if1 .left) (c .if2 .left)
 
 pub at-order-spec : {M : Type 1} → statement M
-at-order-spec =
-    tie.close
-    (tie.spec
-    singles-requires
-    returns
-    add-if2
-    size-requires
-    add-size
-    sub-size
-    size-requires-2
-    groups-requires
-    returns-2
-    returns-3)
+at-order-spec = tie.close (tie.spec blocks-requires returns size-requires size-requires-2 groups-requires returns-2 returns-3)

@@ -1,46 +1,30 @@
 -- `room::counts` meets its contract. The loop's invariant: the counts of the orders before this one are filled in, and the others are 0. Assumes nothing.
-use mathlib.Core.Path.{_≡_, refl, _∙_}
-use Prim.Native.Nat.{_+_, _*_, _^_, _-_, _≤_}
+use mathlib.Core.Path.{_≡_, refl}
+use Prim.Native.Nat.{_-_, _≤_}
 use native.Mathlib.Nat.{zero-add}
 use native.Mathlib.Omega.{arith}
 use borrow.Author.Needs.{needs}
 use lib.ListN.{length, length-set}
 use Rattle.base.specs.Walk.{written}
 use Rattle.base.proofs.Written.{written-more}
-use Rattle.shape.proofs.Trees.{log-low, tree-first, tree-lent}
-use Rattle.shape.proofs.Lent.{frame-tree}
-use Rattle.room.specs.Room as spec
+use Rattle.rules.proofs.Lent.{frame-tree}
+use Rattle.rules.specs.Room as spec
 use Rattle.room.proofs.Rooms.{room-filled}
 use Rattle.room.proofs.counts.Statement.{statement}
 use Rattle.room.proofs.counts.Tie as tie
 
 abbrev Inv-loop : tie.InvT-loop
-Inv-loop h t entries frame counts₀ k at order₀ counts order =
+Inv-loop h t entries frame counts₀ top at order₀ counts order =
     (order ≤ length counts₀) × (length counts ≡ length counts₀) × (counts ≡ written (spec.roomAt h t entries at) counts₀ 0 order)
 
 abbrev μ-loop : tie.MeasureT-loop
-μ-loop h t entries frame counts₀ k at order₀ counts order = length counts₀ - order
+μ-loop h t entries frame counts₀ top at order₀ counts order = length counts₀ - order
 
-tree-log-requires : tie.Need-tree-log-requires Inv-loop μ-loop
-tree-log-requires c κs = c .before .before .pre .1 .2 .sized .tree
+top-order-requires : tie.Need-top-order-requires Inv-loop μ-loop
+top-order-requires c κs = search needs
 
-frame-tree-requires : tie.Need-frame-tree-requires Inv-loop μ-loop
-frame-tree-requires c κs =
-    let pre = c .before .before .before .pre in
-    (pre .0, log-low _ (pre .1 .2 .sized .tree) (c .tree-log .ensures))
-
--- the entries of the frame's tree are lent
-lent : (a : tie.After-frame-tree Inv-loop μ-loop) → let s = a .before .before .before .before .args in
-    a .frame-tree .result * 2 ^ a .before .tree-log .result + s .t ≤ length (s .entries .now)
-lent a =
-    let k = a .before in
-    let pre = k .before .before .before .pre in
-    tree-lent _ (pre .1 .2 .sized .tree) (k .tree-log .ensures) _ _ (a .frame-tree .ensures) (frame-tree (pre .0) (pre .1 .2))
-
-tree-huge-requires : tie.Need-tree-huge-requires Inv-loop μ-loop
-tree-huge-requires c κs =
-    let k = c .before in
-    (log-low _ (k .before .before .before .pre .1 .2 .sized .tree) (k .tree-log .ensures), omega (arith, lent c))
+tree-first-requires : tie.Need-tree-first-requires Inv-loop μ-loop
+tree-first-requires c κs = search needs
 
 loop-holds : tie.Need-loop-holds Inv-loop μ-loop
 unfolding written
@@ -49,9 +33,8 @@ loop-holds c = (omega arith, refl, refl)
 at-order-requires : tie.Need-at-order-requires Inv-loop μ-loop
 at-order-requires c κs =
     let a = c .before .before in
-    let k = a .before .before in
-    let pre = k .before .before .before .pre in
-    (pre .0, pre .1 .2 .sized .tree, k .tree-log .ensures, rw (a .tree-huge .ensures) (lent (a .before)))
+    let pre = a .before .before .before .before .pre in
+    (pre .0, pre .1 .2 .sized .tree, a .before .top-order .ensures, rw (a .tree-first .ensures) (frame-tree (pre .0) (pre .1 .2)))
 
 mul-counts : tie.Need-mul-counts Inv-loop μ-loop
 mul-counts c = search needs
@@ -69,11 +52,11 @@ loop-again : tie.Need-loop-again Inv-loop μ-loop
 loop-again c =
     let a = c .before .before in
     let at = a .loop in
-    let s = a .before .before .before .before .before .before .args in (
+    let s = a .before .before .before .before .before .args in (
       omega arith,
       simp length-set (at .inv .1),
       rw (at .inv .2, c .at-order .ensures)
-          (rw zero-add at (written-more (spec.roomAt (s .h) (s .t) (s .entries .now) (a .before .tree-huge .result)) (s .counts .now) 0 (at .order))),
+          (rw zero-add at (written-more (spec.roomAt (s .h) (s .t) (s .entries .now) (a .before .tree-first .result)) (s .counts .now) 0 (at .order))),
     )
 
 same-length : tie.Need-same-length Inv-loop μ-loop
@@ -82,13 +65,7 @@ same-length c = search needs
 returns : tie.Need-returns Inv-loop μ-loop
 returns c =
     let a = c .before in
-    let b = a .before in
-    let k = b .before .before in
-    let pre = k .before .before .before .pre in
-    let s = k .before .before .before .args in
-    let first : b .tree-huge .result ≡ spec.treeAt (s .h) (s .t) (s .frame) =
-    b .tree-huge .ensures ∙ tree-first _ (pre .1 .2 .sized .tree) (k .tree-log .ensures) _ _ (b .before .frame-tree .ensures) in
-    room-filled _ _ _ _ (pre .2) first (a .loop .inv .2) (omega arith)
+    room-filled _ _ _ _ (a .before .before .before .before .before .pre .2) (a .before .tree-first .ensures) (a .loop .inv .2) (omega arith)
 
 pub counts-spec : {M : Type 1} → statement M
 counts-spec =
@@ -96,9 +73,8 @@ counts-spec =
     (tie.spec
     Inv-loop
     μ-loop
-    tree-log-requires
-    frame-tree-requires
-    tree-huge-requires
+    top-order-requires
+    tree-first-requires
     loop-holds
     at-order-requires
     mul-counts

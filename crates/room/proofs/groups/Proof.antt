@@ -7,7 +7,7 @@ use Prim.Native.Nat.{ℕ, _+_, _-_, _*_, _^_}
 use native.Mathlib.Omega.{arith}
 use borrow.Author.Needs.{needs}
 use Rattle.base.proofs.Walks.{CountAt, count-start, count-hit, count-miss, count-end}
-use Rattle.huge.specs.Huge.{entriesAre}
+use Rattle.rules.specs.State.{entriesAre}
 use Rattle.room.proofs.Rooms.{group-lent}
 use Rattle.room.proofs.groups.Statement.{statement}
 use Rattle.room.proofs.groups.Tie as tie
@@ -28,8 +28,8 @@ whole-requires c κs = search needs
 loop-holds : tie.Need-loop-holds Inv-loop μ-loop
 loop-holds c = (omega arith, count-start)
 
-entries-are-requires : tie.Need-entries-are-requires Inv-loop μ-loop
-entries-are-requires c κs = group-lent _ _ _ _ _ _ (c .before .before .before .before .pre .1) (c .loop-test .taken) (c .before .loop .inv .0)
+are-requires : tie.Need-are-requires Inv-loop μ-loop
+are-requires c κs = group-lent _ _ _ _ _ _ (c .before .before .before .before .pre .1) (c .loop-test .taken) (c .before .loop .inv .0)
 
 add-blocks : tie.Need-add-blocks Inv-loop μ-loop
 add-blocks c = omega (arith, c .before .before .before .loop .inv .1 .low)
@@ -50,8 +50,8 @@ loop-again c =
     let k = c .before .before in
     let at = k .before in
     let s = at .before .before .before .args in
-    let here : c .before .entries-are .result ≡ free-at (s .h) (s .entries .now) (s .at) (s .g) (at .loop .j) =
-    c .before .entries-are .ensures ∙ rw (at .before .whole .ensures, at .loop .inv .0) in (
+    let here : c .before .are .result ≡ free-at (s .h) (s .entries .now) (s .at) (s .g) (at .loop .j) =
+    c .before .are .ensures ∙ rw (at .before .whole .ensures, at .loop .inv .0) in (
       omega (arith, at .loop .inv .0),
       ⊎-elim
           (λ w. rw (w .1) (count-hit (at .loop .inv .1) (k .loop-test .taken) (sym here ∙ w .0 .taken)))
@@ -70,7 +70,7 @@ groups-spec =
     μ-loop
     whole-requires
     loop-holds
-    entries-are-requires
+    are-requires
     add-blocks
     add-first
     add-j

@@ -1,12 +1,11 @@
 -- `shape::huge_frame` meets its contract: a huge order is less than a word's bits. Assumes nothing.
 use native.Mathlib.Omega.{arith}
 use borrow.Author.Needs.{needs}
-use Rattle.base.proofs.Sizes.{huge-high}
 use Rattle.shape.proofs.huge_frame.Statement.{statement}
 use Rattle.shape.proofs.huge_frame.Tie as tie
 
 shl-result : tie.Need-shl-result
-shl-result c = omega (arith, huge-high (c .pre .0))
+shl-result c = omega (arith, c .pre .0 .high)
 
 returns : tie.Need-returns
 returns c = search needs

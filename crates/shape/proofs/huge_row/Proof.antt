@@ -1,15 +1,14 @@
 -- `shape::huge_row` meets its contract: a huge order is at least that of a row, and less than a word's bits. Assumes nothing.
 use native.Mathlib.Omega.{arith}
 use borrow.Author.Needs.{needs}
-use Rattle.base.proofs.Sizes.{huge-low, huge-high}
 use Rattle.shape.proofs.huge_row.Statement.{statement}
 use Rattle.shape.proofs.huge_row.Tie as tie
 
 sub-result : tie.Need-sub-result
-sub-result c = omega (arith, huge-low (c .pre .0))
+sub-result c = omega (arith, c .pre .0 .low)
 
 shl-result : tie.Need-shl-result
-shl-result c = omega (arith, huge-high (c .pre .0))
+shl-result c = omega (arith, c .pre .0 .high)
 
 returns : tie.Need-returns
 returns c = search needs

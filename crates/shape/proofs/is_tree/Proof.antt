@@ -3,7 +3,7 @@ use mathlib.Core.Path.{sym}
 use Prim.Native.Nat.{_<_}
 use native.Mathlib.Omega.{arith}
 use borrow.Author.Needs.{needs}
-use Rattle.shape.proofs.Trees.{tree-test, no-tree}
+use Rattle.rules.proofs.Trees.{tree-test, no-tree}
 use Rattle.shape.proofs.is_tree.Statement.{statement}
 use Rattle.shape.proofs.is_tree.Tie as tie
 

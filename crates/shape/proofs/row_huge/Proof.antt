@@ -3,16 +3,15 @@ use Prim.Native.Nat.{_*_}
 use native.Mathlib.Nat.{mul-div-cancel}
 use native.Mathlib.Omega.{arith}
 use lib.Dec.{lit<}
-use Rattle.base.proofs.Sizes.{huge-low, huge-high}
-use Rattle.shape.proofs.Laws.{huge-of-row}
+use Rattle.rules.proofs.Numbers.{huge-of-row}
 use Rattle.shape.proofs.row_huge.Statement.{statement}
 use Rattle.shape.proofs.row_huge.Tie as tie
 
 sub-result : tie.Need-sub-result
-sub-result c = omega (arith, huge-low (c .pre))
+sub-result c = omega (arith, c .pre .low)
 
 shr-result : tie.Need-shr-result
-shr-result c = omega (arith, huge-high (c .pre))
+shr-result c = omega (arith, c .pre .high)
 
 returns : tie.Need-returns
 returns c = rw (huge-of-row (c .args .row * 64) (c .pre), mul-div-cancel (c .args .row) (lit< tt))

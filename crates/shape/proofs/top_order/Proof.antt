@@ -2,7 +2,6 @@
 use native.Mathlib.Omega.{arith}
 use borrow.Author.Needs.{needs}
 use borrow.Author.Tests.{ltb-true}
-use Rattle.base.proofs.Sizes.{huge-high}
 use Rattle.shape.proofs.top_order.Statement.{statement}
 use Rattle.shape.proofs.top_order.Tie as tie
 
@@ -10,7 +9,7 @@ tree-log-requires : tie.Need-tree-log-requires
 tree-log-requires c κs = search needs
 
 add-result : tie.Need-add-result
-add-result c = omega (arith, huge-high (c .before .pre .0), ltb-true)
+add-result c = omega (arith, c .before .pre .0 .high, ltb-true)
 
 returns : tie.Need-returns
 returns c = search needs

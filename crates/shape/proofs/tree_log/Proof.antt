@@ -1,7 +1,7 @@
 -- `shape::tree_log` meets its contract: a tree size has its logarithm for trailing zeros. Assumes nothing.
 use native.Mathlib.Omega.{arith}
 use lib.Count.{trailing-le}
-use Rattle.shape.proofs.Trees.{tree-trailing}
+use Rattle.rules.proofs.Trees.{tree-trailing}
 use Rattle.shape.proofs.tree_log.Statement.{statement}
 use Rattle.shape.proofs.tree_log.Tie as tie
 

@@ -3,7 +3,7 @@ use Prim.Native.Nat.{_<_}
 use native.Mathlib.Omega.{arith}
 use lib.ListN.{length}
 use borrow.Author.Needs.{needs}
-use Rattle.small.proofs.Below.{huge-fits, huge-shl, order-fits, order-shl, entry-lent, turn-asked}
+use Rattle.rules.proofs.Below.{huge-fits, huge-shl, order-fits, order-shl, entry-lent, turn-asked}
 use Rattle.small.proofs.Answers.{get-marked, get-few, get-done, get-damaged, get-held}
 use Rattle.small.proofs.get_at.Statement.{statement}
 use Rattle.small.proofs.get_at.Tie as tie

@@ -4,7 +4,7 @@ use Prim.Native.Nat.{_<_}
 use native.Mathlib.Omega.{arith}
 use lib.ListN.{length}
 use borrow.Author.Needs.{needs}
-use Rattle.small.proofs.Below.{huge-fits, huge-shl, order-fits, order-shl, entry-lent, block-asked}
+use Rattle.rules.proofs.Below.{huge-fits, huge-shl, order-fits, order-shl, entry-lent, block-asked}
 use Rattle.small.proofs.Answers.{free-marked, free-few, free-whole, free-block}
 use Rattle.small.proofs.is_free.Statement.{statement}
 use Rattle.small.proofs.is_free.Tie as tie

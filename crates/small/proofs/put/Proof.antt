@@ -4,7 +4,7 @@ use Prim.Native.Nat.{_<_}
 use native.Mathlib.Omega.{arith}
 use lib.ListN.{length}
 use borrow.Author.Needs.{needs}
-use Rattle.small.proofs.Below.{entry-lent}
+use Rattle.rules.proofs.Below.{entry-lent}
 use Rattle.small.proofs.Answers.{put-to-marked, put-to-counted}
 use Rattle.small.proofs.put.Statement.{statement}
 use Rattle.small.proofs.put.Tie as tie

@@ -4,7 +4,7 @@ use native.Mathlib.Omega.{arith}
 use lib.Pow.{pow-lt}
 use lib.ListN.{length}
 use borrow.Author.Needs.{needs}
-use Rattle.small.proofs.Below.{huge-fits, huge-shl, order-fits, order-shl, entry-lent, turn-asked}
+use Rattle.rules.proofs.Below.{huge-fits, huge-shl, order-fits, order-shl, entry-lent, turn-asked}
 use Rattle.small.proofs.Answers.{put-over, put-done, put-free}
 use Rattle.small.proofs.put_counted.Statement.{statement}
 use Rattle.small.proofs.put_counted.Tie as tie

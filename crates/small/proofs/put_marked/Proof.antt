@@ -4,7 +4,7 @@ use Prim.Native.Nat.{ℕ, _*_, _/_, _^_, _<_}
 use native.Mathlib.Omega.{arith}
 use lib.ListN.{length}
 use borrow.Author.Needs.{needs}
-use Rattle.small.proofs.Below.{order-fits, order-shl, frame-low, first-low, entry-lent, turn-asked, whole-asked, whole-set}
+use Rattle.rules.proofs.Below.{order-fits, order-shl, frame-low, first-low, entry-lent, turn-asked, whole-asked, whole-set}
 use Rattle.small.proofs.Answers.{put-opened, put-torn}
 use Rattle.small.proofs.put_marked.Statement.{statement}
 use Rattle.small.proofs.put_marked.Tie as tie

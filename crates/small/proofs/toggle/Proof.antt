@@ -6,8 +6,8 @@ use native.Mathlib.Omega.{arith}
 use lib.Pow.{pow-pos}
 use borrow.Author.Needs.{needs}
 use Rattle.base.specs.Size.{rowsOf}
-use Rattle.base.proofs.Sizes.{huge-low, huge-high, mask-mod}
-use Rattle.small.proofs.Turns.{first-row-low, turned-part}
+use Rattle.base.proofs.Sizes.{mask-mod}
+use Rattle.rules.proofs.BlockTurns.{first-row-low, toggled-part}
 use Rattle.small.proofs.toggle.Statement.{statement}
 use Rattle.small.proofs.toggle.Tie as tie
 
@@ -22,10 +22,10 @@ first-is : (c : tie.After-huge-row) → let a = c .before .before .before .args 
 first-is c = c .huge-row .ensures ∙ ap (λ (x : ℕ). x * rowsOf (c .before .before .before .args .h)) (c .before .frame-huge .ensures)
 
 sub-size : tie.Need-sub-size
-sub-size c = omega (arith, huge-low (c .before .before .before .pre .0))
+sub-size c = omega (arith, c .before .before .before .pre .0 .low)
 
 size-requires : tie.Need-size-requires
-size-requires c κs = omega (arith, huge-high (c .before .before .before .pre .0))
+size-requires c κs = omega (arith, c .before .before .before .pre .0 .high)
 
 add-b : tie.Need-add-b
 add-b c = let s = c .before .before .before .before in omega (arith, first-is (c .before), c .size .ensures, s .pre .4)
@@ -43,7 +43,7 @@ part-toggle-end : tie.Need-part-toggle-end
 part-toggle-end c = let s = c .before .before .before .before in omega (arith, first-is (c .before), c .size .ensures, s .pre .4)
 
 size-requires-2 : tie.Need-size-requires-2
-size-requires-2 c κs = omega (arith, huge-high (c .before .before .before .before .before .pre .0))
+size-requires-2 c κs = omega (arith, c .before .before .before .before .before .pre .0 .high)
 
 sub-toggle-2 : tie.Need-sub-toggle-2
 sub-toggle-2 c = omega (arith, c .size2 .ensures, pow-pos (c .before .before .before .before .before .before .args .h))
@@ -60,7 +60,7 @@ returns c =
     let z = t .before .before .before in
     let s = z .before .before .before .before in
     let p = s .pre in
-    turned-part (p .0) (s .args .rows .now) (s .args .frame) (s .args .order) (s .args .expected) (p .1) (p .3) (p .4) _ _ _
+    toggled-part (p .0) (s .args .rows .now) (s .args .frame) (s .args .order) (s .args .expected) (p .1) (p .3) (p .4) _ _ _
     (first-is (z .before)) (add-sub-cancel-left _ _ ∙ z .size .ensures) (mask-mod (s .args .frame) (s .args .h) (t .before .size2 .ensures)) _ _ (t .toggle .ensures)
 
 pub toggle-spec : {M : Type 1} → statement M

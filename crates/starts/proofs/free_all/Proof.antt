@@ -1,11 +1,12 @@
 -- `starts::free_all` meets its contract: the entries of whole huge frames, and that of a partial one where there is one. Assumes nothing.
 use mathlib.Core.Path.{sym, _∙_}
+use Prim.Native.Nat.{_<_}
 use native.Mathlib.Omega.{arith}
 use borrow.Author.Needs.{needs}
-use Rattle.base.proofs.Masks.{shl-one}
-use Rattle.base.proofs.Sizes.{huge-high, frames-fit}
-use Rattle.shape.proofs.Present.{huge-ends}
-use Rattle.starts.specs.Starts as spec
+use Rattle.base.proofs.Sizes.{frames-fit}
+use Rattle.rules.specs.Numbers.{entriesNeeded}
+use Rattle.rules.proofs.Present.{huge-ends}
+use Rattle.rules.specs.Starts as spec
 use Rattle.starts.proofs.Entries.{partial-needed, free-even, free-partial}
 use Rattle.starts.proofs.Rows.{begins-low}
 use Rattle.starts.proofs.free_all.Statement.{statement}
@@ -14,11 +15,8 @@ use Rattle.starts.proofs.free_all.Tie as tie
 write-rows-requires : tie.Need-write-rows-requires
 write-rows-requires c κs = search needs
 
-cast-write-entries : tie.Need-cast-write-entries
-cast-write-entries c = omega (arith, huge-high (c .before .before .before .before .before .before .before .pre .0))
-
-shl-write-entries : tie.Need-shl-write-entries
-shl-write-entries c = omega (arith, huge-high (c .before .before .before .before .before .before .before .pre .0))
+whole-requires : tie.Need-whole-requires
+whole-requires c κs = search needs
 
 write-entries-requires : tie.Need-write-entries-requires
 write-entries-requires c κs = search needs
@@ -26,10 +24,11 @@ write-entries-requires c κs = search needs
 frame-huge-requires : tie.Need-frame-huge-requires
 frame-huge-requires c κs = search needs
 
+abbrev start : tie.After-frame-huge → tie.Start
+start p = p .before .before .before .before .before .before .before .before .before .before .before .before
+
 huge-frame-requires : tie.Need-huge-frame-requires
-huge-frame-requires c κs =
-    let s = c .before .before .before .before .before .before .before .before .before .before .before in
-    (s .pre .0, omega (arith, begins-low _ _ (c .frame-huge .ensures)))
+huge-frame-requires c κs = (start c .pre .0, omega (arith, begins-low _ _ (c .frame-huge .ensures)))
 
 same-length : tie.Need-same-length
 same-length c = search needs
@@ -38,48 +37,39 @@ same-length-2 : tie.Need-same-length-2
 same-length-2 c = search needs
 
 returns : tie.Need-returns
-unfolding spec.freeAll
+unfolding spec.allFree
 returns c =
     let q = c .before in
     let p = q .before in
     let e = p .before .before .before in
-    let w = e .before .before .before .before in
-    let s = w .before .before .before .before in
-    let high = huge-high (s .pre .0) in
+    let a = start p .args in
     rw (
-      w .write-rows .ensures,
+      e .before .before .before .before .before .write-rows .ensures,
       e .write-entries .ensures,
-      shl-one 16 (s .args .h) (omega arith),
-      free-even (s .args .h) (s .args .n) (p .frame-huge .ensures) (s .args .entries .now) _ (sym (q .huge-frame .ensures) ∙ c .if1 .taken),
+      e .before .whole .ensures,
+      free-even (a .h) (a .n) (p .frame-huge .ensures) (a .entries .now) _ (sym (q .huge-frame .ensures) ∙ c .if1 .taken),
     )
 
 sub-entries : tie.Need-sub-entries
 sub-entries c =
     let q = c .before in
-    let p = q .before in
-    let s = p .before .before .before .before .before .before .before .before .before .before .before in
-    omega (arith, q .huge-frame .ensures, begins-low (s .args .h) (s .args .n) (p .frame-huge .ensures))
+    rw (q .huge-frame .ensures) (begins-low _ _ (q .before .frame-huge .ensures))
 
 cast-entries : tie.Need-cast-entries
 cast-entries c =
     let q = c .before in
-    let p = q .before in
-    let s = p .before .before .before .before .before .before .before .before .before .before .before in
-    omega (arith, q .huge-frame .ensures, huge-ends (s .args .h) (s .args .n) _ (sym (p .frame-huge .ensures)) .1, frames-fit (s .pre .0))
+    let s = start (q .before) in
+    omega (arith, q .huge-frame .ensures, huge-ends (s .args .h) (s .args .n) _ (sym (q .before .frame-huge .ensures)) .1, frames-fit (s .pre .0))
+
+-- the partial huge frame's entry is needed
+inside : (c : tie.Else1) → let p = c .before .before in let a = start p .args in p .frame-huge .result < entriesNeeded (a .h) (a .n) (a .t)
+inside c = let p = c .before .before in partial-needed (start p .pre .1) (p .frame-huge .ensures) (c .before .huge-frame .ensures) (c .if1 .left)
 
 mul-entries : tie.Need-mul-entries
-mul-entries c =
-    let q = c .before in
-    let p = q .before in
-    let s = p .before .before .before .before .before .before .before .before .before .before .before in
-    omega (arith, partial-needed (s .pre .1) (p .frame-huge .ensures) (q .huge-frame .ensures) (c .if1 .left), s .pre .1 .entries)
+mul-entries c = omega (arith, inside c, start (c .before .before) .pre .1 .entries)
 
 slice-write-entries : tie.Need-slice-write-entries
-slice-write-entries c =
-    let q = c .before in
-    let p = q .before in
-    let s = p .before .before .before .before .before .before .before .before .before .before .before in
-    omega (arith, partial-needed (s .pre .1) (p .frame-huge .ensures) (q .huge-frame .ensures) (c .if1 .left), s .pre .1 .entries)
+slice-write-entries c = omega (arith, inside c, start (c .before .before) .pre .1 .entries)
 
 same-length-3 : tie.Need-same-length-3
 same-length-3 c = search needs
@@ -88,21 +78,18 @@ same-length-4 : tie.Need-same-length-4
 same-length-4 c = search needs
 
 returns-2 : tie.Need-returns-2
-unfolding spec.freeAll
+unfolding spec.allFree
 returns-2 c =
     let q = c .before in
     let p = q .before in
     let e = p .before .before .before in
-    let w = e .before .before .before .before in
-    let s = w .before .before .before .before in
-    let high = huge-high (s .pre .0) in
-    let inside = partial-needed (s .pre .1) (p .frame-huge .ensures) (q .huge-frame .ensures) (c .if1 .left) in
+    let s = start p in
     rw (
-      w .write-rows .ensures,
+      e .before .before .before .before .before .write-rows .ensures,
       e .write-entries .ensures,
-      shl-one 16 (s .args .h) (omega arith),
+      e .before .whole .ensures,
       q .huge-frame .ensures,
-      free-partial (s .args .h) (s .args .n) (p .frame-huge .ensures) (s .args .entries .now) _ inside (s .pre .1 .entries),
+      free-partial (s .args .h) (s .args .n) (p .frame-huge .ensures) (s .args .entries .now) _ (inside c) (s .pre .1 .entries),
     )
 
 pub free-all-spec : {M : Type 1} → statement M
@@ -110,8 +97,7 @@ free-all-spec =
     tie.close
     (tie.spec
     write-rows-requires
-    cast-write-entries
-    shl-write-entries
+    whole-requires
     write-entries-requires
     frame-huge-requires
     huge-frame-requires

@@ -3,7 +3,7 @@ use mathlib.Core.Path.{_≡_, ap, _∙_}
 use Prim.Native.Nat.{ℕ, _*_, _/_, _^_}
 use native.Mathlib.Omega.{arith}
 use borrow.Author.Needs.{needs}
-use Rattle.starts.specs.Starts as spec
+use Rattle.rules.specs.Starts as spec
 use Rattle.starts.proofs.Rows.{begins-low}
 use Rattle.starts.proofs.reserve_all.Statement.{statement}
 use Rattle.starts.proofs.reserve_all.Tie as tie
@@ -35,7 +35,7 @@ same-length-2 : tie.Need-same-length-2
 same-length-2 c = search needs
 
 returns : tie.Need-returns
-unfolding spec.reserveAll
+unfolding spec.allHeld
 returns c =
     let e = c .before .before in
     let w = e .before .before .before .before in

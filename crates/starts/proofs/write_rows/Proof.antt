@@ -2,7 +2,7 @@
 use native.Mathlib.Omega.{arith}
 use borrow.Author.Needs.{needs}
 use lib.ListN.{length-set}
-use Rattle.shape.proofs.Present.{rows-enough}
+use Rattle.rules.proofs.Present.{rows-enough}
 use Rattle.starts.proofs.Rows.{rows-whole, rows-border}
 use Rattle.starts.proofs.write_rows.Statement.{statement}
 use Rattle.starts.proofs.write_rows.Tie as tie

@@ -1,95 +1,82 @@
 -- `stats::all` meets its contract: trees of more than one huge frame are summed each, others counted as huge frames. Assumes nothing.
-use Prim.Native.Nat.{_+_, _≤_, _<_}
+use mathlib.Core.Path.{refl, ap, _∙_}
+use Prim.Native.Nat.{ℕ, _^_, _≤_, _<_}
 use native.Mathlib.Omega.{arith}
 use lib.ListN.{length}
 use borrow.Author.Needs.{needs}
-use Rattle.base.proofs.Sizes.{huge-high}
-use Rattle.shape.proofs.Laws.{tree-high}
-use Rattle.shape.proofs.Trees.{log-low}
-use Rattle.shape.proofs.Needed.{trees-lent, entries-lent, entries-few}
-use Rattle.shape.proofs.Entries.{whole-entry}
+use Rattle.rules.proofs.Numbers.{tree-high}
+use Rattle.rules.proofs.Trees.{log-low, top-low}
+use Rattle.rules.proofs.Needed.{needed-trees, trees-lent, entries-few}
 use Rattle.stats.proofs.Cases.{all-of-trees, all-of-one}
 use Rattle.stats.proofs.all.Statement.{statement}
 use Rattle.stats.proofs.all.Tie as tie
 
+entries-needed-requires : tie.Need-entries-needed-requires
+entries-needed-requires c κs = search needs
+
+-- the needed entries are lent, and few enough to be summed in 32 bits and counted in 16
+lent : (a : tie.After-entries-needed) → (a .entries-needed .result ≤ length (a .before .before .args .entries .now)) × (a .entries-needed .result < 65536)
+lent a = let pre = a .before .before .pre in rw (a .entries-needed .ensures) (pre .1 .1 .entries, entries-few (pre .1 .1) (pre .0))
+
+blocks-requires : tie.Need-blocks-requires
+blocks-requires c κs = (omega (arith, lent c), lent c .1, omega arith)
+
+whole-requires : tie.Need-whole-requires
+whole-requires c κs = search needs
+
+count-of-requires : tie.Need-count-of-requires
+count-of-requires c κs = lent (c .before .before)
+
+top-order-requires : tie.Need-top-order-requires
+top-order-requires c κs = search needs
+
+size-requires : tie.Need-size-requires
+size-requires c κs =
+    let pre = c .before .before .before .before .before .before .before .pre in
+    omega (arith, c .top-order .ensures, top-low _ (pre .1 .1 .tree) refl (pre .0))
+
 tree-log-requires : tie.Need-tree-log-requires
 tree-log-requires c κs = search needs
 
--- T's logarithm is one of the ten
-low : (a : tie.After-tree-log) → a .tree-log .result < 10
-low a = let pre = a .before .before .pre in log-low _ (pre .1 .1 .tree) (a .tree-log .ensures)
-
--- and a shift by it and by h stays within a word
-shifts : (a : tie.After-tree-log) → a .before .before .args .h + a .tree-log .result < 64
-shifts a = omega (arith, low a, huge-high (a .before .before .pre .0))
-
-entries-needed-requires : tie.Need-entries-needed-requires
-entries-needed-requires c κs = let pre = c .before .before .pre in (pre .0, low c, pre .1 .1 .most)
-
--- the needed entries are lent
-lent : (a : tie.After-entries-needed) → a .entries-needed .result ≤ length (a .before .before .before .args .entries .now)
-lent a = entries-lent (a .before .before .before .pre .1 .1) (a .before .tree-log .ensures) (a .entries-needed .ensures)
-
--- and few enough to be summed in 32 bits and counted in 16
-few : (a : tie.After-entries-needed) → a .entries-needed .result < 65536
-few a = let pre = a .before .before .before .pre in entries-few (pre .1 .1) (a .before .tree-log .ensures) (a .entries-needed .ensures) (pre .0)
-
-free-in-requires : tie.Need-free-in-requires
-free-in-requires c κs = (omega (arith, lent c), few c)
-
-cast-count-of : tie.Need-cast-count-of
-cast-count-of c = omega (arith, huge-high (c .before .before .before .before .pre .0))
-
-shl-count-of : tie.Need-shl-count-of
-shl-count-of c = omega (arith, huge-high (c .before .before .before .before .pre .0))
-
-count-of-requires : tie.Need-count-of-requires
-count-of-requires c κs = (lent (c .before), few (c .before))
-
-add-size : tie.Need-add-size
-add-size c = omega (arith, shifts (c .before .before .before .before))
-
-size-requires : tie.Need-size-requires
-size-requires c κs = shifts (c .before .before .before .before)
-
 huge-tree-requires : tie.Need-huge-tree-requires
-huge-tree-requires c κs = low (c .before .before .before .before .before)
+huge-tree-requires c κs = log-low _ (c .before .before .before .before .before .before .before .before .before .pre .1 .1 .tree) (c .tree-log .ensures)
 
 free-trees-by-size-requires : tie.Need-free-trees-by-size-requires
 free-trees-by-size-requires c κs =
-    let a = c .before .before .before .before .before in
-    let s = a .before .before .before .pre .1 .1 in
-    (trees-lent s (a .before .tree-log .ensures) (a .entries-needed .ensures) (c .huge-tree .ensures), tree-high _ (s .tree))
+    let a = c .before .before .before .before .before .before .before .before in
+    let s = a .before .before .pre .1 .1 in
+    (trees-lent s (c .before .tree-log .ensures) (a .entries-needed .ensures) (c .huge-tree .ensures), tree-high _ (s .tree))
 
 returns : tie.Need-returns
 returns c =
-    let b = c .before .before .before .before in
-    let a = b .before .before in
-    let s = a .before .before .before in
-    all-of-trees (s .pre .1 .1) (a .before .tree-log .ensures) (a .entries-needed .ensures) (s .args .entries .now)
-    (b .before .free-in .ensures) (b .count-of .ensures) (whole-entry (s .pre .0))
-    (c .free-trees-by-size .ensures) (c .before .before .size .ensures) (c .before .huge-tree .ensures)
+    let k = c .before .before in
+    let z = k .before in
+    let n = z .before .before .before in
+    let a = n .before .before .before in
+    let s = a .before .before in
+    all-of-trees (s .pre .1 .1) (a .entries-needed .ensures) (s .args .entries .now) (n .before .before .blocks2 .ensures) (n .count-of .ensures) (n .before .whole .ensures)
+    (c .free-trees-by-size .ensures) (z .size .ensures ∙ ap (λ (o : ℕ). 2 ^ o) (z .before .top-order .ensures))
+    (needed-trees (s .pre .1 .1) (k .tree-log .ensures) (a .entries-needed .ensures) (c .before .huge-tree .ensures))
 
 returns-2 : tie.Need-returns-2
 returns-2 c =
-    let a = c .before .before .before in
-    let s = a .before .before .before in
-    all-of-one (s .pre .1 .1) (a .before .tree-log .ensures) (a .entries-needed .ensures) (s .args .entries .now)
-    (c .before .before .free-in .ensures) (c .before .count-of .ensures) (whole-entry (s .pre .0))
+    let n = c .before in
+    let a = n .before .before .before in
+    let s = a .before .before in
+    all-of-one (s .pre .1 .1) (a .entries-needed .ensures) (s .args .entries .now) (n .before .before .blocks2 .ensures) (n .count-of .ensures) (n .before .whole .ensures)
     (s .pre .0) (c .if1 .left)
 
 pub all-spec : {M : Type 1} → statement M
 all-spec =
     tie.close
     (tie.spec
-    tree-log-requires
     entries-needed-requires
-    free-in-requires
-    cast-count-of
-    shl-count-of
+    blocks-requires
+    whole-requires
     count-of-requires
-    add-size
+    top-order-requires
     size-requires
+    tree-log-requires
     huge-tree-requires
     free-trees-by-size-requires
     returns

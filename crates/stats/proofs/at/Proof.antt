@@ -1,9 +1,8 @@
 -- `stats::at` meets its contract: each order's rule, in their order. Assumes nothing.
 use native.Mathlib.Omega.{arith}
 use borrow.Author.Needs.{needs}
-use Rattle.base.proofs.Sizes.{huge-high}
-use Rattle.shape.proofs.Laws.{rows-cover}
-use Rattle.shape.proofs.Lent.{frame-entry, frame-tree}
+use Rattle.rules.proofs.Numbers.{rows-cover}
+use Rattle.rules.proofs.Lent.{frame-entry, frame-tree}
 use Rattle.stats.proofs.Cases.{by-frame, by-huge, by-tree, by-none}
 use Rattle.stats.proofs.at.Statement.{statement}
 use Rattle.stats.proofs.at.Tie as tie
@@ -21,7 +20,7 @@ free-of-requires : tie.Need-free-of-requires
 free-of-requires c κs = let pre = c .before .before .before .before .pre in (pre .0, frame-entry (pre .0) (pre .1 .1))
 
 shr-t9 : tie.Need-shr-t9
-shr-t9 c = omega (arith, huge-high (c .before .before .before .before .before .pre .0))
+shr-t9 c = omega (arith, c .before .before .before .before .before .pre .0 .high)
 
 returns-2 : tie.Need-returns-2
 returns-2 c = by-huge (c .before .before .before .before .before .args .h) _ _ _ _ (c .before .before .if1 .left) (c .before .if2 .taken) (c .free-of .ensures)

@@ -1,54 +1,47 @@
 -- `stats::at_tree` meets its contract: the entries of the frame's tree are lent. Assumes nothing.
-use Prim.Native.Nat.{_+_, _*_, _^_, _≤_, _<_}
+use mathlib.Core.Path.{refl}
 use native.Mathlib.Omega.{arith}
-use lib.ListN.{length}
 use borrow.Author.Needs.{needs}
-use Rattle.base.proofs.Sizes.{huge-high}
-use Rattle.shape.proofs.Laws.{tree-high}
-use Rattle.shape.proofs.Trees.{log-low, tree-lent}
+use Rattle.rules.proofs.Numbers.{tree-high}
+use Rattle.rules.proofs.Trees.{top-low}
 use Rattle.stats.proofs.Cases.{tree-counted}
 use Rattle.stats.proofs.at_tree.Statement.{statement}
 use Rattle.stats.proofs.at_tree.Tie as tie
 
-tree-log-requires : tie.Need-tree-log-requires
-tree-log-requires c κs = search needs
+tree-first-requires : tie.Need-tree-first-requires
+tree-first-requires c κs = search needs
 
--- T's logarithm is one of the ten
-low : (a : tie.After-tree-log) → a .tree-log .result < 10
-low a = log-low _ (a .before .before .pre .1) (a .tree-log .ensures)
+blocks-requires : tie.Need-blocks-requires
+blocks-requires c κs =
+    let pre = c .before .before .pre in
+    (rw (c .tree-first .ensures) (pre .2), omega (arith, tree-high _ (pre .1)), omega arith)
 
-frame-tree-requires : tie.Need-frame-tree-requires
-frame-tree-requires c κs = (c .before .before .pre .0, low c)
+blocks-requires-2 : tie.Need-blocks-requires-2
+blocks-requires-2 c κs =
+    let pre = c .before .before .before .pre in
+    (rw (c .before .tree-first .ensures) (pre .2), omega (arith, tree-high _ (pre .1)), omega (arith, pre .0 .high))
 
--- the tree's entries end within those lent
-ends : (a : tie.After-frame-tree) → a .frame-tree .result * 2 ^ a .before .tree-log .result + a .before .before .before .args .t ≤ length (a .before .before .before .args .entries .now)
-ends a = let pre = a .before .before .before .pre in tree-lent _ (pre .1) (a .before .tree-log .ensures) _ _ (a .frame-tree .ensures) (pre .2)
+top-order-requires : tie.Need-top-order-requires
+top-order-requires c κs = search needs
 
-tree-huge-requires : tie.Need-tree-huge-requires
-tree-huge-requires c κs = (low (c .before), omega (arith, ends c))
-
-free-in-requires : tie.Need-free-in-requires
-free-in-requires c κs =
-    (omega (arith, ends (c .before), c .tree-huge .ensures), omega (arith, tree-high _ (c .before .before .before .before .pre .1)))
-
-huge-in-requires : tie.Need-huge-in-requires
-huge-in-requires c κs =
+shr-t9 : tie.Need-shr-t9
+shr-t9 c =
     let pre = c .before .before .before .before .before .pre in
-    (pre .0, omega (arith, ends (c .before .before), c .before .tree-huge .ensures), omega (arith, tree-high _ (pre .1)))
-
-add-t9 : tie.Need-add-t9
-add-t9 c = omega (arith, low (c .before .before .before .before), huge-high (c .before .before .before .before .before .before .pre .0))
-
-shr-t10 : tie.Need-shr-t10
-shr-t10 c = omega (arith, low (c .before .before .before .before), huge-high (c .before .before .before .before .before .before .pre .0))
+    omega (arith, c .top-order .ensures, top-low _ (pre .1) refl (pre .0))
 
 returns : tie.Need-returns
 returns c =
-    let a = c .before .before .before in
+    let a = c .before .before in
     let s = a .before .before .before in
-    tree-counted _ _ _ (s .pre .1) (a .before .tree-log .ensures) (a .frame-tree .ensures) (c .before .before .tree-huge .ensures) (s .args .entries .now)
-    (c .before .free-in .ensures) (c .huge-in .ensures)
+    tree-counted _ _ _ (s .pre .1) (a .before .tree-first .ensures) (c .top-order .ensures) (s .args .entries .now) (a .blocks2 .ensures) (c .before .blocks3 .ensures)
 
 pub at-tree-spec : {M : Type 1} → statement M
 at-tree-spec =
-    tie.close (tie.spec tree-log-requires frame-tree-requires tree-huge-requires free-in-requires huge-in-requires add-t9 shr-t10 returns)
+    tie.close
+    (tie.spec
+    tree-first-requires
+    blocks-requires
+    blocks-requires-2
+    top-order-requires
+    shr-t9
+    returns)

@@ -8,7 +8,8 @@ use lib.Dec.{eqb}
 use borrow.Author.Needs.{needs}
 use borrow.Author.Tests.{eq-eqb, ne-eqb}
 use Rattle.base.proofs.Walks.{CountAt, count-start, count-hit, count-miss, count-end}
-use Rattle.stats.specs.Stats.{freeIn}
+use Rattle.rules.specs.Queries.{freeIn}
+use Rattle.rules.proofs.Entries.{frames-in}
 use Rattle.stats.proofs.free_trees.Statement.{statement}
 use Rattle.stats.proofs.free_trees.Tie as tie
 
@@ -25,11 +26,11 @@ loop-holds c = count-start
 ends : (a : tie.In-loop Inv-loop μ-loop) → (a .before .loop .y + 1) * a .before .before .before .args .t ≤ a .before .before .before .args .k * a .before .before .before .args .t
 ends a = mul-le-mul-right (a .before .before .before .args .t) (omega (arith, a .loop-test .taken))
 
-mul-free-in : tie.Need-mul-free-in Inv-loop μ-loop
-mul-free-in c = omega (arith, ends c, c .before .before .before .pre .0)
+mul-blocks : tie.Need-mul-blocks Inv-loop μ-loop
+mul-blocks c = omega (arith, ends c, c .before .before .before .pre .0)
 
-free-in-requires : tie.Need-free-in-requires Inv-loop μ-loop
-free-in-requires c κs = (omega (arith, ends c, c .before .before .before .pre .0), omega (arith, c .before .before .before .pre .1))
+blocks-requires : tie.Need-blocks-requires Inv-loop μ-loop
+blocks-requires c κs = (omega (arith, ends c, c .before .before .before .pre .0), omega (arith, c .before .before .before .pre .1), omega arith)
 
 add-sum : tie.Need-add-sum Inv-loop μ-loop
 add-sum c = omega (arith, c .before .before .before .loop .inv .low)
@@ -43,7 +44,8 @@ loop-less c = search needs
 loop-again : tie.Need-loop-again Inv-loop μ-loop
 loop-again c =
     let k = c .before .before in
-    let e = c .before .free-in .ensures in
+    let s = k .before .before .before .args in
+    let e = c .before .blocks2 .ensures ∙ frames-in (s .entries .now) (s .t) (k .before .loop .y * s .t) in
     ⊎-elim
     (λ w. rw (w .1) (count-hit (k .before .loop .inv) (k .loop-test .taken) (eq-eqb _ _ (sym e ∙ w .0 .taken))))
     (λ w. rw (w .1) (count-miss (k .before .loop .inv) (k .loop-test .taken) (ne-eqb _ _ (λ z. w .0 .left (e ∙ z)))))
@@ -53,4 +55,4 @@ returns : tie.Need-returns Inv-loop μ-loop
 returns c = count-end (c .before .loop .inv) (c .loop-test .left)
 
 pub free-trees-spec : {M : Type 1} → statement M
-free-trees-spec = tie.close (tie.spec Inv-loop μ-loop loop-holds mul-free-in free-in-requires add-sum add-y loop-less loop-again returns)
+free-trees-spec = tie.close (tie.spec Inv-loop μ-loop loop-holds mul-blocks blocks-requires add-sum add-y loop-less loop-again returns)

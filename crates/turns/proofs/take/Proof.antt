@@ -1,7 +1,7 @@
 -- `turns::take` meets its contract: a bad line, a start, a line that only asks, one that writes. Assumes nothing.
 use borrow.Author.Needs.{needs}
-use Rattle.turns.proofs.Cases.{it-is, it-is-not, it-does, it-does-not, keeps, keeps-written}
-use Rattle.turns.specs.Turn as spec
+use Rattle.asks.proofs.Cases.{it-is, it-is-not, it-does, it-does-not, keeps, keeps-written}
+use Rattle.asks.specs.Turn as spec
 use Rattle.turns.proofs.take.Statement.{statement}
 use Rattle.turns.proofs.take.Tie as tie
 

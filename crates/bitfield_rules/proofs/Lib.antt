@@ -1,0 +1,4 @@
+pub mod Laws
+pub mod Order
+pub mod Search
+pub mod Toggles

@@ -1,0 +1,155 @@
+-- The search, place by place, as the code makes it: rows from the start row on, wrapping, or groups from row 0. Assumes nothing.
+use mathlib.Core.Path.{_≡_, sym, ap, _∙_, subst}
+use mathlib.Core.Bool.{Bool, true, false}
+use mathlib.Core.List.{List}
+use Prim.Native.Nat.{ℕ, _+_, _-_, _*_, _/_, _%_, _^_, _≤_, _<_}
+use native.Mathlib.Decide.{decLt}
+use native.Mathlib.Nat.{sub-add-cancel, mod-mod, mod-eq-of-lt, mul-mod-left, div-add-mod', zero-add, mul-le-mul-right, mul-assoc, add-mul}
+use native.Mathlib.Omega.{arith}
+use lib.Dec.{eqb}
+use lib.Pow.{pow-pos, pow-add, shr-lt}
+use lib.ListN.{length, getD}
+use borrow.Author.Tests.{eq-eqb, ne-eqb, le-leb, lt-leb, lt-ltb, le-ltb}
+use Rattle.base.specs.Code.{orElse, out}
+use Rattle.base.specs.Size.{Huge, rowsOf}
+use Rattle.base.specs.Bits.{bitsAt, blockIs, withBits}
+use Rattle.base.proofs.Rests.{mod-sum, mod-rows}
+use Rattle.base.proofs.Walks.{first-is, first-never}
+use Rattle.base.proofs.Sizes.{rows-frames, pow-divides}
+use Rattle.base.proofs.Rows.{block-row}
+use Rattle.bitfield_rules.specs.declared.Placed.{Placed}
+use Rattle.bitfield_rules.specs.Calls.{placed, orderCode, visited, passed, firstZeros, setFirstZeros}
+
+-- whether the place that is visited after j others is clear
+abbrev pub clearAt : ℕ → List ℕ → ℕ → ℕ → ℕ → Bool
+clearAt h rows start o j = blockIs false rows (visited h start o j) (2 ^ o)
+
+-- none of the first k places is clear
+abbrev pub NoneOf : ℕ → List ℕ → ℕ → ℕ → ℕ → Type 0
+NoneOf h rows start o k = (j : ℕ) → j < k → clearAt h rows start o j ≡ false
+
+-- ---- from places to the answer
+module _ (h : ℕ) (rows : List ℕ) (start o : ℕ) (long : length rows ≡ rowsOf h) (low : o ≤ h) where
+  unrefused : orderCode h (length rows) o ≡ 0
+  unfolding orElse
+  unrefused = rw (eq-eqb (length rows) (rowsOf h) long, le-leb o h low)
+
+  -- a place that is clear, with none before it, is the answer
+  pub search-found : (j : ℕ) → j < 2 ^ (h - o) → NoneOf h rows start o j → clearAt h rows start o j ≡ true → placed 0 (visited h start o j) ≡ firstZeros h rows start o
+  unfolding firstZeros passed
+  search-found j l none hit =
+      let e : passed h rows start o ≡ j = first-is (clearAt h rows start o) (2 ^ (h - o)) 0 j (omega arith) (omega arith) hit (λ k _ c. none k c) in
+      rw (eq-eqb (orderCode h (length rows) o) 0 unrefused, e, lt-ltb j (2 ^ (h - o)) l)
+
+  -- where no place is clear, the answer is 7
+  pub search-missed : NoneOf h rows start o (2 ^ (h - o)) → placed 7 0 ≡ firstZeros h rows start o
+  unfolding firstZeros passed
+  search-missed none =
+      let e : passed h rows start o ≡ 2 ^ (h - o) = first-never (clearAt h rows start o) (2 ^ (h - o)) 0 (λ k _ c. none k (omega arith)) ∙ zero-add (2 ^ (h - o)) in
+      rw (eq-eqb (orderCode h (length rows) o) 0 unrefused, e, le-ltb (2 ^ (h - o)) (2 ^ (h - o)) (omega arith))
+
+-- ---- from the search to the store
+module _ (h : ℕ) (rows : List ℕ) (start o : ℕ) {a : Placed} (is : a ≡ firstZeros h rows start o) where
+  pub search-stores : a .code ≡ 0 → {after : List ℕ} → after ≡ withBits true rows (a .place) (a .place + 2 ^ o) → out a after ≡ setFirstZeros h rows start o
+  unfolding setFirstZeros
+  search-stores z e = rw (e, ← is, eq-eqb (a .code) 0 z)
+
+  pub search-stores-nothing : (a .code ≡ 0 → ⊥) → out a rows ≡ setFirstZeros h rows start o
+  unfolding setFirstZeros
+  search-stores-nothing n = rw (← is, ne-eqb (a .code) 0 n)
+
+-- a start row counts modulo the rows
+pub start-mod : (h : ℕ) (rows : List ℕ) (start o : ℕ) → firstZeros h rows (start % rowsOf h) o ≡ firstZeros h rows start o
+unfolding firstZeros passed
+start-mod h rows start o = simp (mod-mod start (rowsOf h))
+
+-- ---- to order 6: row by row
+
+-- the places of all rows are all places
+pub all-places : {h : ℕ} (o : ℕ) → Huge h → o ≤ 6 → rowsOf h * 2 ^ (6 - o) ≡ 2 ^ (h - o)
+all-places {h} o H l =
+    let low = H .low in
+    let e : h - 6 + (6 - o) ≡ h - o = omega arith in
+    sym (pow-add 2 (h - 6) (6 - o)) ∙ ap (λ (k : ℕ). 2 ^ k) e
+
+module _ {h : ℕ} (H : Huge h) (rows : List ℕ) (start o : ℕ) (l6 : o ≤ 6) where
+  -- place k of the row that is visited after t others
+  place-in : (t k : ℕ) → k < 2 ^ (6 - o) → visited h start o (t * 2 ^ (6 - o) + k) ≡ (start + t) % rowsOf h * 64 + k * 2 ^ o
+  place-in t k l =
+      let full = pow-divides o 6 l6 in
+      let fit : (k + 1) * 2 ^ o ≤ 2 ^ (6 - o) * 2 ^ o = mul-le-mul-right (2 ^ o) (omega arith) in
+      let pos : 0 < rowsOf h = pow-pos (h - 6) in
+      let p = pow-pos o in
+      let small : k * 2 ^ o < 64 = omega arith in
+      let w : (t * 2 ^ (6 - o) + k) * 2 ^ o ≡ t * 64 + k * 2 ^ o = add-mul (t * 2 ^ (6 - o)) k (2 ^ o) ∙ ap (λ (x : ℕ). x + k * 2 ^ o) (mul-assoc t (2 ^ (6 - o)) (2 ^ o) ∙ ap (λ (x : ℕ). t * x) full) in
+      let s : start % rowsOf h * 64 + (t * 64 + k * 2 ^ o) ≡ (start % rowsOf h + t) * 64 + k * 2 ^ o = omega arith in
+      rw (le-leb o 6 l6, w, s, rows-frames H)
+      (mod-rows (start % rowsOf h + t) (k * 2 ^ o) (rowsOf h) small pos ∙ ap (λ (x : ℕ). x * 64 + k * 2 ^ o) (mod-sum start t (rowsOf h)))
+
+  -- is clear where its bits in that row are
+  clear-in : (t k : ℕ) → k < 2 ^ (6 - o) → clearAt h rows start o (t * 2 ^ (6 - o) + k) ≡ eqb (bitsAt (getD rows ((start + t) % rowsOf h) 0) (k * 2 ^ o) (2 ^ o)) 0
+  clear-in t k l =
+      let full = pow-divides o 6 l6 in
+      let fit : (k + 1) * 2 ^ o ≤ 2 ^ (6 - o) * 2 ^ o = mul-le-mul-right (2 ^ o) (omega arith) in
+      let p = pow-pos o in
+      let i = (start + t) % rowsOf h in
+      let small : k * 2 ^ o < 64 = omega arith in
+      let row : ((start + t) % rowsOf h * 64 + k * 2 ^ o) / 64 ≡ (start + t) % rowsOf h = omega arith in
+      let bit : ((start + t) % rowsOf h * 64 + k * 2 ^ o) % 64 ≡ k * 2 ^ o = omega arith in
+      ap (λ (q : ℕ). blockIs false rows q (2 ^ o)) (place-in t k l)
+      ∙ block-row false rows (i * 64 + k * 2 ^ o) (2 ^ o) (rw bit (omega arith)) ∙ rw (row, bit)
+
+  -- a row of whose places below p none is clear, after rows that have none
+  module _ (t p : ℕ) (none : NoneOf h rows start o (t * 2 ^ (6 - o))) (high : p ≤ 64)
+      (least : (q : ℕ) → q % 2 ^ o ≡ 0 → q < p → bitsAt (getD rows ((start + t) % rowsOf h) 0) q (2 ^ o) ≡ 0 → ⊥) where
+    below : (k : ℕ) → k < 2 ^ (6 - o) → k * 2 ^ o < p → clearAt h rows start o (t * 2 ^ (6 - o) + k) ≡ false
+    below k l c = clear-in t k l ∙ ne-eqb _ _ (least (k * 2 ^ o) (mul-mod-left k (2 ^ o)) c)
+
+    passed-below : (n : ℕ) → n ≤ 2 ^ (6 - o) → n * 2 ^ o ≤ p → NoneOf h rows start o (t * 2 ^ (6 - o) + n)
+    passed-below n l c j a = elim (decLt j (t * 2 ^ (6 - o))) [
+      | yes b ↦ none j b
+      | no b ↦ at (j - t * 2 ^ (6 - o)) (omega arith) (omega arith)
+    ]
+      where
+        at : (k : ℕ) → j ≡ t * 2 ^ (6 - o) + k → k < n → clearAt h rows start o j ≡ false
+        at k e q =
+            let m : (k + 1) * 2 ^ o ≤ n * 2 ^ o = mul-le-mul-right (2 ^ o) (omega arith) in
+            let z = pow-pos o in
+            ap (clearAt h rows start o) e ∙ below k (omega arith) (omega arith)
+
+    -- such a row that is all passed
+    pub row-passed : p ≡ 64 → NoneOf h rows start o ((t + 1) * 2 ^ (6 - o))
+    row-passed e =
+        let s : (t + 1) * 2 ^ (6 - o) ≡ t * 2 ^ (6 - o) + 2 ^ (6 - o) = omega arith in
+        rw s (passed-below (2 ^ (6 - o)) (omega arith) (omega (arith, pow-divides o 6 l6)))
+
+    -- such a row with a clear block at p
+    pub row-found : length rows ≡ rowsOf h → t < rowsOf h → p < 64 → p % 2 ^ o ≡ 0 → bitsAt (getD rows ((start + t) % rowsOf h) 0) p (2 ^ o) ≡ 0
+        → placed 0 ((start + t) % rowsOf h * 64 + p) ≡ firstZeros h rows start o
+    row-found long inside low even clear =
+        let full = pow-divides o 6 l6 in
+        let low9 = H .low in
+        let k = p / 2 ^ o in
+        let back : p / 2 ^ o * 2 ^ o ≡ p = omega (arith, div-add-mod' p (2 ^ o)) in
+        let lk : p / 2 ^ o < 2 ^ (6 - o) = shr-lt (6 - o) o (subst (λ (x : ℕ). p < 2 ^ x) (sym (sub-add-cancel l6)) low) in
+        let le : (t + 1) * 2 ^ (6 - o) ≤ rowsOf h * 2 ^ (6 - o) = mul-le-mul-right (2 ^ (6 - o)) (omega arith) in
+        let lj : t * 2 ^ (6 - o) + k < 2 ^ (h - o) = omega (arith, all-places o H l6) in
+        let at : visited h start o (t * 2 ^ (6 - o) + k) ≡ (start + t) % rowsOf h * 64 + p = place-in t k lk ∙ ap (λ (x : ℕ). (start + t) % rowsOf h * 64 + x) back in
+        ap (placed 0) (sym at)
+        ∙ search-found h rows start o long (omega arith) (t * 2 ^ (6 - o) + k) lj (passed-below k (omega arith) (omega arith))
+        (clear-in t k lk ∙ eq-eqb _ _ (ap (λ (x : ℕ). bitsAt (getD rows ((start + t) % rowsOf h) 0) x (2 ^ o)) back ∙ clear))
+
+-- ---- above order 6: group by group
+
+-- a group ends within the huge frame
+pub group-ends : (h o j : ℕ) → o ≤ h → j < 2 ^ (h - o) → j * 2 ^ o + 2 ^ o ≤ 2 ^ h
+group-ends h o j lh l =
+    let fit : (j + 1) * 2 ^ o ≤ 2 ^ (h - o) * 2 ^ o = mul-le-mul-right (2 ^ o) (omega arith) in
+    omega (arith, pow-divides o h lh)
+
+-- and is visited in its turn, from row 0 on
+pub group-at : (h start o j : ℕ) → 6 < o → o ≤ h → j < 2 ^ (h - o) → visited h start o j ≡ j * 2 ^ o
+group-at h start o j l6 lh l =
+    let p = pow-pos o in
+    let small : 0 * 64 + j * 2 ^ o < 2 ^ h = omega (arith, group-ends h o j lh l) in
+    rw (lt-leb o 6 l6) (mod-eq-of-lt small ∙ omega arith)

@@ -1,1 +1,0 @@
-// No code: every call of a run under one type.

@@ -1,5 +1,0 @@
-pub mod Consistent
-pub mod Exact
-pub mod Runs
-pub mod Calls
-pub mod Results

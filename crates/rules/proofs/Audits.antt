@@ -1,0 +1,85 @@
+-- A clean audit is exactly a consistent state. Assumes nothing.
+use mathlib.Core.Path.{_≡_, refl, sym, ap, _∙_}
+use mathlib.Core.Bool.{true, false}
+use mathlib.Core.Logic.{_⊎_, inl, inr, ⊎-elim}
+use Prim.Native.Nat.{ℕ, _+_, _-_, _*_, _^_, _<_}
+use native.Mathlib.Decide.{decLt, ℕ-discrete}
+use native.Mathlib.Omega.{arith}
+use lib.ListN.{length}
+use Rattle.base.specs.Bits.{bitIs}
+use Rattle.base.specs.Size.{Huge}
+use Rattle.base.proofs.Walks.{count-le}
+use Rattle.base.proofs.Frames.{block-each, block-of}
+use Rattle.base.proofs.Codes.{done}
+use Rattle.rules.specs.Numbers.{mark, entriesNeeded}
+use Rattle.rules.specs.State.{Mem, entryOf}
+use Rattle.rules.specs.Refusals.{sizesRefusal}
+use Rattle.rules.proofs.Numbers.{tree-pos}
+use Rattle.rules.proofs.Lent.{sized, sized-passes}
+use Rattle.rules.proofs.Present.{present-entry}
+use Rattle.rules.specs.declared.Fault.{Fault}
+use Rattle.rules.specs.Audit.{fault, reason, auditAll, audit}
+use Rattle.rules.proofs.Reasons.{reason-clean-absent, reason-absent-clean, reason-clean-marked, reason-marked-clean, reason-clean-counted, reason-counted-clean}
+use Rattle.rules.proofs.AuditSteps.{audit-clean-each, audit-each-clean}
+use Rattle.rules.specs.Consistent.{Fits, ByMark, ByCount, Consistent}
+use Rattle.rules.proofs.Frees.{no-mark}
+
+-- ---- one huge frame
+
+module _ (h n : ℕ) (m : Mem) (x : ℕ) (l : x * 2 ^ h < n) where
+  -- a present huge frame with no reason has the mark and is clear, or its count is right
+  reasonless : reason h n m x ≡ 0 → ByMark h n m x ⊎ ByCount h n m x
+  reasonless e = elim (ℕ-discrete (entryOf (m .entries) x) mark) [
+    | yes k ↦
+        let c = reason-clean-marked h n m x l k e in
+        inl (record {
+          marked = k;
+          below = omega (arith, c .0);
+          clear = λ f a b. block-each false (m .rows) (x * 2 ^ h) (2 ^ h) (c .1) f (omega arith) (omega arith);
+        })
+    | no k ↦
+        let c = reason-clean-counted h n m x l k e in
+        inr (record {
+          most = omega (arith, c .1, count-le (bitIs false (m .rows)) (2 ^ h) (x * 2 ^ h));
+          counts = c .1;
+          past = λ f a b. block-each true (m .rows) n ((x + 1) * 2 ^ h - n) (c .0) f (omega arith) (omega arith);
+        })
+  ]
+
+  -- and the other way round
+  marked-reasonless : ByMark h n m x → reason h n m x ≡ 0
+  marked-reasonless k =
+      reason-marked-clean h n m x l (k .marked) (omega (arith, k .below))
+      (block-of false (m .rows) (x * 2 ^ h) (2 ^ h) (λ f a b. k .clear f (omega arith) (omega arith)))
+
+  counted-reasonless : Huge h → ByCount h n m x → reason h n m x ≡ 0
+  counted-reasonless H k =
+      reason-counted-clean h n m x l (no-mark H k) (block-of true (m .rows) n ((x + 1) * 2 ^ h - n) (λ f a b. k .past f (omega arith) (omega arith))) (k .counts)
+
+-- ---- all of them
+
+-- where the state is consistent, no huge frame has a reason
+pub consistent-reasonless : {h n t : ℕ} {m : Mem} → Huge h → Consistent h n t m → (x : ℕ) → x < entriesNeeded h n t → reason h n m x ≡ 0
+consistent-reasonless {h} {n} {t} {m} H c x u = elim (decLt (x * 2 ^ h) n) [
+  | yes l ↦ ⊎-elim (marked-reasonless h n m x l) (counted-reasonless h n m x l H) (c .present x l)
+  | no l ↦ reason-absent-clean h n m x (omega arith) (c .absent x (omega arith) u)
+]
+
+pub clean-is-consistent : (h n t : ℕ) (m : Mem) → Huge h → Fits m → (audit h n t m ≡ fault 0 0 0 → Consistent h n t m) × (Consistent h n t m → audit h n t m ≡ fault 0 0 0)
+unfolding audit
+clean-is-consistent h n t m H fits = (clean, consistent)
+  where
+    clean : audit h n t m ≡ fault 0 0 0 → Consistent h n t m
+    clean e =
+        let a = done (auditAll h n t m) (fault (sizesRefusal h n t m) 0 0) (λ r. r .code) refl (ap (λ (r : Fault). r .code) e) in
+        let s = sized h n t (length (m .rows)) (length (m .entries)) (a .0) in
+        let none = audit-clean-each h n t m (sym (a .1) ∙ e) in
+        record {
+          sized = s;
+          fits = fits;
+          present = λ x l. reasonless h n m x l (none x (present-entry h n t x (tree-pos t (s .tree)) l));
+          absent = λ x l u. reason-clean-absent h n m x (omega arith) (none x u);
+        }
+
+    consistent : Consistent h n t m → audit h n t m ≡ fault 0 0 0
+    consistent c = rw (sized-passes (c .sized)) (audit-each-clean h n t m (consistent-reasonless H c))

@@ -1,0 +1,177 @@
+-- Each refusal number is given exactly when the document says, and a refused call writes nothing. Assumes nothing.
+use mathlib.Core.Path.{_≡_, refl, sym, ap, ap₂, _∙_}
+use mathlib.Core.Bool.{Bool, true, false, not, _&&_, _||_}
+use mathlib.Core.List.{List, [], _∷_}
+use Prim.Native.Nat.{ℕ, zero, suc, _+_, _*_, _^_}
+use native.Mathlib.Omega.{arith}
+use lib.Dec.{eqb, leb, ltb}
+use lib.ListN.{length, replicate}
+use borrow.Author.Tests.{ne-eqb, lt-ltb}
+use Rattle.base.specs.Walk.{pick}
+use Rattle.base.specs.Code.{Out, out, unless, orElse, stored}
+use Rattle.base.proofs.Walks.{pick-case, pick-of}
+use Rattle.base.proofs.Tests.{not-leb, not-ltb, not-both}
+use Rattle.base.proofs.Codes.{regrouped, or-none}
+use Rattle.base.proofs.Stored.{if-refused}
+use Rattle.rules.specs.declared.Got.{Got}
+use Rattle.rules.specs.declared.Stats.{Stats}
+use Rattle.rules.specs.Numbers.{isTree, topOrder, aligned, rowsNeeded, entriesNeeded}
+use Rattle.rules.specs.Refusals.{framesCode, treeCode, sizesRefusal, blockRefusal, startRefusal, frameRefusal}
+use Rattle.rules.specs.State.{Mem}
+use Rattle.rules.specs.Starts as starts
+use Rattle.rules.specs.Queries.{statsAll, atOrder, isFree, stats, statsAt}
+use Rattle.bitfield_rules.specs.declared.Answered.{Answered}
+use Rattle.rules.specs.Starts.{freeAll, reserveAll}
+use Rattle.rules.specs.Put.{put}
+use Rattle.rules.specs.Get.{get, getAt}
+use Rattle.rules.specs.declared.Fault.{Fault}
+use Rattle.rules.specs.Audit.{faultless, auditAll, audit}
+use Rattle.rules.specs.declared.Recovered.{Recovered}
+use Rattle.rules.specs.Recover.{recoverable, recoverAll, recover}
+use Rattle.rules.specs.Room.{room, treeRun}
+use Rattle.rules.specs.Call.{OnBlock, OnFrame, OnAll, Call, gotNumbers, statsNumbers, called, code, left}
+use Rattle.rules.specs.Keeps.{numberOf, tested, own, steps, fields, Bare}
+use Rattle.rules.proofs.Leaves.{Leaves, untouched, got-block, got-group, took-block, took-group, gave-block, gave-part, gave-group, recovered, leaves}
+
+-- ---- what a test refuses
+
+frames-refused : (n : ℕ) → not (ltb 0 n && leb n 1048576) ≡ (eqb n 0 || ltb 1048576 n)
+frames-refused n = not-both (ltb 0 n) (leb n 1048576) ∙ rw (not-leb n 1048576) (ap (λ (b : Bool). b || ltb 1048576 n) (none n))
+  where
+    none : (n : ℕ) → not (ltb 0 n) ≡ eqb n 0
+    none zero = refl
+    none (suc n) = rw (lt-ltb 0 (suc n) (omega arith), ne-eqb (suc n) 0 (λ z. omega arith))
+
+-- ---- codes in their order
+
+-- a code and those after it are the number of the first test that holds
+numbered : (k : ℕ) (a : Bool) {b : Bool} (bs : List Bool) {rest : ℕ} → not a ≡ b → rest ≡ numberOf (suc (suc k)) bs
+    → orElse (unless a (suc k)) rest ≡ numberOf (suc k) (b ∷ bs)
+unfolding numberOf orElse
+numbered k true bs q e = rw (← q) e
+numbered k false bs q e = rw (← q, ne-eqb (suc k) 0 (λ z. omega arith))
+
+-- the last one
+last : (k : ℕ) (a : Bool) {b : Bool} → not a ≡ b → unless a (suc k) ≡ numberOf (suc k) (b ∷ [])
+unfolding numberOf
+last k true q = rw (← q)
+last k false q = rw (← q)
+
+module _ (h n t : ℕ) (m : Mem) where
+  abbrev lent : Bool
+  lent = leb (rowsNeeded h n) (length (m .rows)) && leb (entriesNeeded h n t) (length (m .entries))
+
+  lent-refused : not lent ≡ (ltb (length (m .rows)) (rowsNeeded h n) || ltb (length (m .entries)) (entriesNeeded h n t))
+  lent-refused = rw (← not-leb (rowsNeeded h n) (length (m .rows)), ← not-leb (entriesNeeded h n t) (length (m .entries)))
+      (not-both (leb (rowsNeeded h n) (length (m .rows))) (leb (entriesNeeded h n t) (length (m .entries))))
+
+  -- 1, 2 and 3, and what follows them
+  sizes-then : (bs : List Bool) {rest : ℕ} → rest ≡ numberOf 4 bs → orElse (sizesRefusal h n t m) rest ≡ tested h n t m bs
+  sizes-then bs {rest} e =
+      regrouped (framesCode n) _ rest ∙ ap (orElse (framesCode n)) (regrouped (treeCode t) _ rest)
+      ∙ numbered 0 (ltb 0 n && leb n 1048576) _ (frames-refused n) (numbered 1 (isTree t) _ refl (numbered 2 lent bs lent-refused e))
+
+  sizes-tested : sizesRefusal h n t m ≡ tested h n t m []
+  unfolding numberOf
+  sizes-tested = sym (or-none (sizesRefusal h n t m)) ∙ sizes-then [] refl
+
+  block-tested : (f o : ℕ) → blockRefusal h n t m f o ≡ tested h n t m (ltb (topOrder h t) o ∷ ltb n (f + 2 ^ o) ∷ not (aligned f o) ∷ [])
+  block-tested f o =
+      sizes-then _
+      (numbered 3 (leb o (topOrder h t)) _ (not-leb o (topOrder h t)) (numbered 4 (leb (f + 2 ^ o) n) _ (not-leb (f + 2 ^ o) n) (last 5 (aligned f o) refl)))
+
+  start-tested : (row o : ℕ) → startRefusal h n t m row o ≡ tested h n t m (ltb (topOrder h t) o ∷ leb n (row * 64) ∷ [])
+  start-tested row o = sizes-then _ (numbered 3 (leb o (topOrder h t)) _ (not-leb o (topOrder h t)) (last 4 (ltb (row * 64) n) (not-ltb (row * 64) n)))
+
+  frame-tested : (f : ℕ) → frameRefusal h n t m f ≡ tested h n t m (false ∷ leb n f ∷ [])
+  unfolding numberOf
+  frame-tested f = sizes-then (false ∷ leb n f ∷ []) (last 4 (ltb f n) (not-ltb f n))
+
+-- ---- the code of a call
+
+-- a call refused by code c, or done
+checked : {A : Type 0} (code : A → ℕ) {c k d : ℕ} (does refusal : A) → code refusal ≡ c → c ≡ k → code does ≡ d
+    → code (pick (eqb c 0) does refusal) ≡ orElse k d
+unfolding orElse
+checked code {c} does refusal q p e = pick-of code (eqb c 0) does refusal ∙ ap₂ (λ (x y : ℕ). pick (eqb c 0) x y) e q ∙ ap₂ orElse p refl
+
+module _ (h n t : ℕ) (m : Mem) where
+  -- stats_at answers no code of its own
+  stats-at-done : (f o : ℕ) → atOrder h t m f o .code ≡ 0
+  unfolding atOrder
+  stats-at-done f o =
+      pick-case (λ (x : Stats). x .code ≡ 0) (eqb o 0) (λ _. refl)
+      (λ _. pick-case (λ (x : Stats). x .code ≡ 0) (eqb o h) (λ _. refl) (λ _. pick-case (λ (x : Stats). x .code ≡ 0) (eqb o (topOrder h t)) (λ _. refl) (λ _. refl)))
+
+  -- nor does audit
+  audit-done : auditAll h n t m .code ≡ 0
+  unfolding auditAll
+  audit-done = pick-case (λ (x : Fault). x .code ≡ 0) (ltb (faultless h n t m) (entriesNeeded h n t)) (λ _. refl) (λ _. refl)
+
+  pub call-code : (c : Call) → code h n t m c ≡ orElse (tested h n t m (own h n t c)) (steps h n t m c)
+  unfolding called own steps get getAt put isFree stats statsAt statsAll audit recover room recoverAll recoverable
+  call-code (Call.Get row o) =
+      checked (λ (x : Out Got Mem). x .answer .code) _ _ refl (start-tested h n t m row o) (pick-of (λ (x : Out Got Mem). x .answer .code) (ltb o h) _ _)
+  call-code (Call.Block OnBlock.GetAt f o) =
+      checked (λ (x : Out Got Mem). x .answer .code) _ _ refl (block-tested h n t m f o) (pick-of (λ (x : Out Got Mem). x .answer .code) (ltb o h) _ _)
+  call-code (Call.Block OnBlock.Put f o) =
+      checked (λ (x : Out ℕ Mem). x .answer) _ _ refl (block-tested h n t m f o) (pick-of (λ (x : Out ℕ Mem). x .answer) (ltb o h) _ _)
+  call-code (Call.All OnAll.Recover) =
+      checked (λ (x : Out Recovered Mem). x .answer .code) _ _ refl (sizes-tested h n t m) refl
+  call-code (Call.Block OnBlock.IsFree f o) = checked (λ (x : Answered). x .code) _ _ refl (block-tested h n t m f o) refl
+  call-code (Call.Frame (OnFrame.StatsAt o) f) = checked (λ (x : Stats). x .code) _ _ refl (frame-tested h n t m f) (stats-at-done f o)
+  call-code (Call.Frame OnFrame.Room f) = checked (λ (x : Out ℕ (List ℕ)). x .answer) _ _ refl (frame-tested h n t m f) refl
+  call-code (Call.Frame OnFrame.TreeRun f) = sym (or-none (frameRefusal h n t m f)) ∙ ap₂ orElse (frame-tested h n t m f) refl
+  call-code (Call.All OnAll.Stats) = checked (λ (x : Stats). x .code) _ _ refl (sizes-tested h n t m) refl
+  call-code (Call.All OnAll.Audit) = checked (λ (x : Fault). x .code) _ _ refl (sizes-tested h n t m) audit-done
+
+  -- a start has no number of its own either
+  start-code : (after : Mem) → stored (sizesRefusal h n t m) m after .answer ≡ tested h n t m []
+  start-code after = checked (λ (x : Out ℕ Mem). x .answer) (out 0 after) (out (sizesRefusal h n t m) m) refl (sizes-tested h n t m) refl ∙ or-none _
+
+  pub starts-code : (freeAll h n t m .answer ≡ tested h n t m []) × (reserveAll h n t m .answer ≡ tested h n t m [])
+  unfolding freeAll reserveAll
+  starts-code = (start-code _, start-code _)
+
+-- ---- the other fields of a refusal
+
+-- a call refused by code c answers its refusal
+bare : {A : Type 0} (say : A → List ℕ) {c k : ℕ} (does refusal : A) {rest : List ℕ} → say refusal ≡ c ∷ rest → c ≡ k → (k ≡ 0 → ⊥)
+    → say (pick (eqb c 0) does refusal) ≡ k ∷ rest
+bare say {c} does refusal {rest} q p e = rw (ne-eqb c 0 (λ z. e (sym p ∙ z))) (q ∙ ap (λ (x : ℕ). x ∷ rest) p)
+
+module _ (h n t : ℕ) (m : Mem) where
+  pub call-bare : (c : Call) → Bare h n t m c
+  unfolding called own fields get getAt put isFree stats statsAt audit recover room treeRun replicate
+  call-bare (Call.Get row o) = bare (λ (x : Out Got Mem). gotNumbers (x .answer)) _ _ refl (start-tested h n t m row o)
+  call-bare (Call.Block OnBlock.GetAt f o) = bare (λ (x : Out Got Mem). gotNumbers (x .answer)) _ _ refl (block-tested h n t m f o)
+  call-bare (Call.Block OnBlock.Put f o) = bare (λ (x : Out ℕ Mem). x .answer ∷ []) _ _ refl (block-tested h n t m f o)
+  call-bare (Call.Block OnBlock.IsFree f o) = bare (λ (x : Answered). x .code ∷ pick (x .yes) 1 0 ∷ []) _ _ refl (block-tested h n t m f o)
+  call-bare (Call.Frame (OnFrame.StatsAt o) f) = bare statsNumbers _ _ refl (frame-tested h n t m f)
+  call-bare (Call.Frame OnFrame.Room f) = bare (λ (x : Out ℕ (List ℕ)). x .answer ∷ x .left) _ _ refl (frame-tested h n t m f)
+  call-bare (Call.Frame OnFrame.TreeRun f) = bare (λ (x : List ℕ). frameRefusal h n t m f ∷ x) _ _ refl (frame-tested h n t m f)
+  call-bare (Call.All OnAll.Stats) = bare statsNumbers _ _ refl (sizes-tested h n t m)
+  call-bare (Call.All OnAll.Audit) = bare (λ (x : Fault). x .code ∷ x .huge ∷ x .reason ∷ []) _ _ refl (sizes-tested h n t m)
+  call-bare (Call.All OnAll.Recover) =
+      bare (λ (x : Out Recovered Mem). x .answer .code ∷ x .answer .entries ∷ x .answer .bitfields ∷ []) _ _ refl (sizes-tested h n t m)
+
+-- ---- nothing is written
+
+refused-left : {h n t : ℕ} {m : Mem} {c : Call} {k : ℕ} {after : Mem} → Leaves h n t m c k after → (k ≡ 0 → ⊥) → after ≡ m
+refused-left (untouched c k) e = refl
+refused-left (got-block row o j f s l p) e = absurd (e refl)
+refused-left (got-group row o j s l p) e = absurd (e refl)
+refused-left (took-block f o b l) e = absurd (e refl)
+refused-left (took-group f o b l) e = absurd (e refl)
+refused-left (gave-block f o v b l) e = absurd (e refl)
+refused-left (gave-part f o v b l) e = absurd (e refl)
+refused-left (gave-group f o b l) e = absurd (e refl)
+refused-left (recovered s) e = absurd (e refl)
+
+module _ (h n t : ℕ) (m : Mem) where
+  pub call-refused : (c : Call) → (code h n t m c ≡ 0 → ⊥) → left h n t m c ≡ m
+  call-refused c = refused-left (leaves h n t m c)
+
+  pub starts-refused : ((freeAll h n t m .answer ≡ 0 → ⊥) → freeAll h n t m .left ≡ m) × ((reserveAll h n t m .answer ≡ 0 → ⊥) → reserveAll h n t m .left ≡ m)
+  unfolding freeAll reserveAll
+  starts-refused = (if-refused m (starts.allFree h n t m) (sizesRefusal h n t m), if-refused m (starts.allHeld h n t m) (sizesRefusal h n t m))

@@ -1,0 +1,55 @@
+-- A term of each theorem. Assumes nothing.
+use mathlib.Core.Path.{_≡_}
+use Prim.Native.Nat.{ℕ}
+use Rattle.rules.specs.State.{Mem}
+use Rattle.rules.specs.Exact.{Consistency, Demand2}
+use Rattle.rules.specs.Keeps.{Keeps, CallsKeep}
+use Rattle.rules.specs.OneTree.{OneTree}
+use Rattle.rules.specs.Runs.{BorrowedAndReturned, NeverShared}
+use Rattle.rules.specs.Results.{EqualResults, TableHolds}
+use Rattle.rules.proofs.Starts.{free-all-is-consistent, reserve-all-is-consistent}
+use Rattle.rules.proofs.Audits.{clean-is-consistent}
+use Rattle.rules.proofs.Recovers.{recover-makes-consistent, recover-keeps-consistent}
+use Rattle.rules.proofs.Refusals.{call-code, starts-code, call-bare, call-refused, starts-refused}
+use Rattle.rules.proofs.Beyonds.{Beyond, call-beyond, starts-beyond}
+use Rattle.rules.proofs.Runs.{calls-keep-consistent, borrowed-leaves-no-trace, frames-never-shared}
+use Rattle.rules.proofs.Exacts.{calls-are-exact}
+use Rattle.rules.proofs.OneTree.{tree-alone}
+use Rattle.rules.proofs.Results.{results-equal, table-right}
+
+pub consistency : Consistency
+consistency h n t m H fits = record {
+  starts-free = free-all-is-consistent h n t m H fits;
+  starts-held = reserve-all-is-consistent h n t m H fits;
+  audits = clean-is-consistent h n t m H fits;
+  recovers = recover-makes-consistent h n t m H fits;
+  recovers-nothing = recover-keeps-consistent h n t m H;
+  keeps = λ c. calls-keep-consistent h n t m c H;
+}
+
+keeps : {h n t : ℕ} {m : Mem} {number code : ℕ} {left : Mem} → code ≡ number → ((code ≡ 0 → ⊥) → left ≡ m) → Beyond h n t m left → Keeps h n t m number code left
+keeps e r b = record { exact = e; refused = r; rows = b .rows; entries = b .entries; long = b .long }
+
+pub calls-keep : CallsKeep
+calls-keep h n t m H = (
+  λ c. (keeps (call-code h n t m c) (call-refused h n t m c) (call-beyond H n t m c), call-bare h n t m c),
+  (keeps (starts-code h n t m .0) (starts-refused h n t m .0) (starts-beyond H n t m .0), keeps (starts-code h n t m .1) (starts-refused h n t m .1) (starts-beyond H n t m .1)),
+)
+
+pub demand-2 : Demand2
+demand-2 = calls-are-exact
+
+pub borrowed-and-returned : BorrowedAndReturned
+borrowed-and-returned = borrowed-leaves-no-trace
+
+pub never-shared : NeverShared
+never-shared = frames-never-shared
+
+pub one-tree : OneTree
+one-tree = tree-alone
+
+pub equal-results : EqualResults
+equal-results = results-equal
+
+pub table-holds : TableHolds
+table-holds = table-right

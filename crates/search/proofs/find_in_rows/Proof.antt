@@ -1,0 +1,141 @@
+-- `search::find_in_rows` meets its contract. The loop's invariant: of the places of the rows that are passed none is clear. Assumes nothing.
+use mathlib.Core.Path.{_≡_, refl}
+use Prim.Native.Nat.{ℕ, _+_, _-_, _*_, _%_, _^_, _<_, _≤_}
+use native.Mathlib.Nat.{mod-lt}
+use native.Mathlib.Omega.{arith}
+use borrow.Author.Needs.{needs}
+use lib.Bits.{bitAnd}
+use lib.Pow.{pow-mono, pow-pos}
+use lib.ListN.{getD}
+use Rattle.base.specs.Size.{rowsOf}
+use Rattle.base.proofs.Sizes.{mask-mod}
+use Rattle.row.specs.Row.{lowest}
+use Rattle.row.proofs.Laws.{lowest-le, lowest-clear, lowest-least}
+use Rattle.bitfield_rules.proofs.Search.{NoneOf, search-missed, all-places, row-passed, row-found}
+use Rattle.search.proofs.find_in_rows.Statement.{statement}
+use Rattle.search.proofs.find_in_rows.Tie as tie
+
+abbrev Inv-loop : tie.InvT-loop
+Inv-loop h rows start order count passed₀ passed = (passed ≤ rowsOf h) × NoneOf h rows start order (passed * 2 ^ (6 - order))
+
+abbrev μ-loop : tie.MeasureT-loop
+μ-loop h rows start order count passed₀ passed = count - passed
+
+sub-size : tie.Need-sub-size Inv-loop μ-loop
+sub-size c = omega (arith, c .before .pre .0 .low)
+
+size-requires : tie.Need-size-requires Inv-loop μ-loop
+size-requires c κs = omega (arith, c .before .pre .0 .high)
+
+loop-holds : tie.Need-loop-holds Inv-loop μ-loop
+loop-holds c = (omega arith, λ j l. absurd (omega arith))
+
+-- a huge frame has 32 rows at most
+rows-few : (s : tie.Start Inv-loop μ-loop) → rowsOf (s .args .h) ≤ 32
+rows-few s =
+    let l : s .args .h - 6 ≤ 5 = omega (arith, s .pre .0 .high) in
+    omega (arith, pow-mono l)
+
+-- the row that is visited after those passed
+abbrev visit : (a : tie.At-loop Inv-loop μ-loop) → ℕ
+visit a = let s = a .before .before .before .args in (s .start + a .loop .passed) % rowsOf (s .h)
+
+visit-low : (a : tie.At-loop Inv-loop μ-loop) → visit a < rowsOf (a .before .before .before .args .h)
+visit-low a = let s = a .before .before .before .args in mod-lt (s .start + a .loop .passed) (pow-pos (s .h - 6))
+
+-- as the code makes it
+masked : (a : tie.At-loop Inv-loop μ-loop) → bitAnd (a .before .before .before .args .start + a .loop .passed) (a .before .size .result - 1) ≡ visit a
+masked a = let s = a .before .before .before .args in mask-mod (s .start + a .loop .passed) (s .h - 6) (a .before .size .ensures)
+
+add-i : tie.Need-add-i Inv-loop μ-loop
+add-i c = let s = c .before .before .before .before in omega (arith, s .pre .2, c .before .loop .inv .0, rows-few s)
+
+sub-i : tie.Need-sub-i Inv-loop μ-loop
+sub-i c = omega (arith, c .loop-test .taken)
+
+mul-lowest-clear : tie.Need-mul-lowest-clear Inv-loop μ-loop
+mul-lowest-clear c = omega (arith, masked (c .before), visit-low (c .before), rows-few (c .before .before .before .before))
+
+shared-slice-read-lowest-clear : tie.Need-shared-slice-read-lowest-clear Inv-loop μ-loop
+shared-slice-read-lowest-clear c = let a = c .before .before in rw (a .before .before .before .pre .1, masked a) (visit-low a)
+
+lowest-clear-requires : tie.Need-lowest-clear-requires Inv-loop μ-loop
+lowest-clear-requires c κs = search needs
+
+mul-t15 : tie.Need-mul-t15 Inv-loop μ-loop
+mul-t15 c = let a = c .before .before .before .before in omega (arith, masked a, visit-low a, rows-few (a .before .before .before))
+
+cast-t16 : tie.Need-cast-t16 Inv-loop μ-loop
+cast-t16 c = search needs
+
+add-t17 : tie.Need-add-t17 Inv-loop μ-loop
+add-t17 c = let a = c .before .before .before .before in omega (arith, masked a, visit-low a, rows-few (a .before .before .before), c .if1 .taken)
+
+-- what that row has for its lowest place
+place-is : (c : tie.After-lowest-clear Inv-loop μ-loop) → let a = c .before .before .before in let s = a .before .before .before in
+    c .lowest-clear .result ≡ lowest (s .args .order) (getD (s .args .rows .now) (visit a) 0)
+place-is c = rw (masked (c .before .before .before)) at (c .lowest-clear .ensures)
+
+returns : tie.Need-returns Inv-loop μ-loop
+returns c =
+    let a = c .before .before .before .before in
+    let s = a .before .before .before in
+    let o = s .args .order in
+    let p = c .before .lowest-clear .result in
+    let v = getD (s .args .rows .now) (visit a) 0 in
+    let is : p ≡ lowest o v = place-is (c .before) in
+    let k = lowest-clear o v (s .pre .3) (omega (arith, c .if1 .taken)) in
+    rw (masked a)
+    (row-found (s .pre .0) (s .args .rows .now) (s .args .start) o (s .pre .3) (a .loop .passed) p (a .loop .inv .1) (omega (arith, c .if1 .taken))
+    (λ q aligned below. lowest-least o v q aligned (omega arith))
+    (s .pre .1) (omega (arith, c .before .before .before .loop-test .taken, a .before .size .ensures)) (c .if1 .taken) (rw is (k .aligned)) (rw is (k .bits)))
+
+add-passed : tie.Need-add-passed Inv-loop μ-loop
+add-passed c = let a = c .before .before .before .before in omega (arith, a .loop .inv .0, rows-few (a .before .before .before))
+
+loop-less : tie.Need-loop-less Inv-loop μ-loop
+loop-less c = search needs
+
+loop-again : tie.Need-loop-again Inv-loop μ-loop
+loop-again c =
+    let r = c .before in
+    let a = r .before .before .before in
+    let s = a .before .before .before in
+    let o = s .args .order in
+    let v = getD (s .args .rows .now) (visit a) 0 in
+    let full : lowest o v ≡ 64 = omega (arith, place-is r, c .if1 .left, lowest-le o v (s .pre .3)) in (
+      omega (arith, r .before .before .loop-test .taken, a .before .size .ensures),
+      row-passed (s .pre .0) (s .args .rows .now) (s .args .start) o (s .pre .3) (a .loop .passed) 64 (a .loop .inv .1) (omega arith)
+          (λ q aligned below. lowest-least o v q aligned (omega arith)) refl,
+    )
+
+returns-2 : tie.Need-returns-2 Inv-loop μ-loop
+returns-2 c =
+    let s = c .before .before .before .before in
+    let at = c .before .loop in
+    let n : at .passed ≡ rowsOf (s .args .h) = omega (arith, c .loop-test .left, at .inv .0, c .before .before .size .ensures) in
+    let all : at .passed * 2 ^ (6 - s .args .order) ≡ 2 ^ (s .args .h - s .args .order) = rw n (all-places (s .args .order) (s .pre .0) (s .pre .3)) in
+    search-missed (s .args .h) (s .args .rows .now) (s .args .start) (s .args .order) (s .pre .1) (omega (arith, s .pre .0 .low)) (rw all at (at .inv .1))
+
+pub find-in-rows-spec : {M : Type 1} → statement M
+find-in-rows-spec =
+    tie.close
+    (tie.spec
+    Inv-loop
+    μ-loop
+    sub-size
+    size-requires
+    loop-holds
+    add-i
+    sub-i
+    mul-lowest-clear
+    shared-slice-read-lowest-clear
+    lowest-clear-requires
+    mul-t15
+    cast-t16
+    add-t17
+    returns
+    add-passed
+    loop-less
+    loop-again
+    returns-2)

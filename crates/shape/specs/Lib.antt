@@ -1,3 +1,0 @@
-pub mod Shape
-pub mod Refuse
-pub mod State

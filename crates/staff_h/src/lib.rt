@@ -1,0 +1,81 @@
+// The calls of `staff` over the huge order h, for callers that have it as a value.
+ghost use mathlib.Core.Path.{_≡_};
+ghost use lib.ListN.{replicate};
+ghost use Rattle.base.specs.Code.{out};
+ghost use Rattle.base.specs.Size.{Huge};
+ghost use Rattle.rules.specs.State.{mem};
+ghost use Rattle.rules.specs.Room.{orders};
+ghost use Rattle.rules.specs.Calls as spec;
+use rules::Fault;
+use rules::Recovered;
+
+pub fn audit(h: usize, n: usize, t: usize, rows: &[u64], entries: &[u16]) -> Fault
+    requires { ⌜ Huge h ⌝ }
+    ensures { λ r. ⌜ r ≡ spec.audit h n t (mem (now (rows .entry)) (now (entries .entry))) ⌝ }
+{
+    let code = refuse::sizes(h, n, t, rows.len(), entries.len());
+    if code != 0 {
+        return Fault {
+            code: code,
+            huge: 0,
+            reason: 0,
+        };
+    }
+    audit::all(h, n, t, rows, entries)
+}
+
+pub fn recover(h: usize, n: usize, t: usize, rows: &mut [u64], entries: &mut [u16]) -> Recovered
+    requires { ⌜ Huge h ⌝ }
+    ensures { λ r. ⌜ out r (mem (now (rows .exit)) (now (entries .exit))) ≡ spec.recover h n t (mem (now (rows .entry)) (now (entries .entry))) ⌝ }
+{
+    let code = refuse::sizes(h, n, t, rows.len(), entries.len());
+    if code != 0 {
+        return Recovered {
+            code: code,
+            entries: 0,
+            bitfields: 0,
+        };
+    }
+    recover::all(h, n, t, rows, entries)
+}
+
+// Fills in counts that are 0, and leaves them so where it is refused.
+pub fn room(
+    h: usize,
+    n: usize,
+    t: usize,
+    rows: &[u64],
+    entries: &[u16],
+    frame: usize,
+    counts: &mut [usize],
+) -> u32
+    requires { ⌜ (Huge h) × (now counts ≡ replicate (orders h) 0) ⌝ }
+    ensures { λ r. ⌜ out r (now (counts .exit)) ≡ spec.room h n t (mem (now (rows .entry)) (now (entries .entry))) frame ⌝ }
+{
+    let code = refuse::frame(h, n, t, rows.len(), entries.len(), frame);
+    if code != 0 {
+        return code;
+    }
+    room::counts(h, t, entries, frame, counts);
+    0
+}
+
+pub fn tree_run<'a>(
+    h: usize,
+    n: usize,
+    t: usize,
+    rows: &[u64],
+    entries: &'a [u16],
+    frame: usize,
+) -> &'a [u16]
+    requires { ⌜ Huge h ⌝ }
+    ensures { λ r. ⌜ now r ≡ spec.treeRun h n t (mem (now (rows .entry)) (now (entries .entry))) frame ⌝ }
+{
+    let code = refuse::frame(h, n, t, rows.len(), entries.len(), frame);
+    if code != 0 {
+        return &entries[0..0];
+    }
+    let a = shape::tree_first(h, t, frame);
+    let b = a + t;
+    &entries[a..b]
+}
