@@ -1,5 +1,4 @@
--- Document 01, "Lines to check": the call that a line makes, and what it prints.
-use mathlib.Core.Bool.{Bool, _||_}
+-- Document 01, "Lines to check": the call that a line makes, and its answer as it is printed.
 use Prim.Native.Nat.{ℕ}
 use lib.Dec.{eqb}
 use Rattle.base.specs.Walk.{pick}
@@ -11,7 +10,14 @@ use Rattle.bitfield_rules.specs.declared.Answered.{Answered}
 use Rattle.rules.specs.Calls as calls
 use Rattle.rules.specs.declared.Fault.{Fault}
 use Rattle.rules.specs.declared.Recovered.{Recovered}
+use Rattle.rules.specs.declared.Init.{Init}
+use Rattle.rules.specs.declared.Init.the-variants.{FreeAll, AllocAll}
 use Rattle.lines.specs.declared.Line.{Line}
+use Rattle.lines.specs.declared.Line.the-variants.{Starts, Changes, Asks, Bad}
+use Rattle.lines.specs.declared.Change.{Change}
+use Rattle.lines.specs.declared.Change.the-variants.{Get, GetAt, Put, Recover}
+use Rattle.lines.specs.declared.Question.{Question}
+use Rattle.lines.specs.declared.Question.the-variants.{IsFree, StatsOfAll, StatsAt, Audit}
 use Rattle.lines.specs.declared.Answer.{Answer}
 use Rattle.lines.specs.Answer.{answer}
 use Rattle.asks.specs.declared.Turn.{Turn}
@@ -40,56 +46,41 @@ abbrev pub printing : {A : Type 0} → (A → Answer) → Out A Mem → Out Answ
 printing say o = out (say (o .answer)) (o .left)
 
 -- "Q", "S", "T", "A": the lines that only ask
-abbrev pub asks : ℕ → Bool
-asks l = eqb l 81 || (eqb l 83 || (eqb l 84 || eqb l 65))
-
-unfoldable pub asked : ℕ → ℕ → ℕ → Mem → Line → Answer
-asked h n t m l =
-    pick (eqb (l .letter) 81) (ofFree (calls.isFree h n t m (l .a) (l .b)))
-    (pick (eqb (l .letter) 83) (ofStats (calls.stats h n t m))
-    (pick (eqb (l .letter) 84) (ofStats (calls.statsAt h n t m (l .a) (l .b)))
-    (ofFault (calls.audit h n t m))))
+unfoldable pub asked : ℕ → ℕ → ℕ → Mem → Question → Answer
+asked h n t m (IsFree frame order) = ofFree (calls.isFree h n t m frame order)
+asked h n t m StatsOfAll = ofStats (calls.stats h n t m)
+asked h n t m (StatsAt frame order) = ofStats (calls.statsAt h n t m frame order)
+asked h n t m Audit = ofFault (calls.audit h n t m)
 
 -- "G", "P", "F", "R": those that write
-unfoldable pub changed : ℕ → ℕ → ℕ → Mem → Line → Out Answer Mem
-changed h n t m l =
-    pick (eqb (l .letter) 71) (printing ofGot (calls.get h n t m (l .a) (l .b)))
-    (pick (eqb (l .letter) 80) (printing ofGot (calls.getAt h n t m (l .a) (l .b)))
-    (pick (eqb (l .letter) 70) (printing ofCode (calls.put h n t m (l .a) (l .b)))
-    (printing ofRecovered (calls.recover h n t m))))
+unfoldable pub changed : ℕ → ℕ → ℕ → Mem → Change → Out Answer Mem
+changed h n t m (Get row order) = printing ofGot (calls.get h n t m row order)
+changed h n t m (GetAt frame order) = printing ofGot (calls.getAt h n t m frame order)
+changed h n t m (Put frame order) = printing ofCode (calls.put h n t m frame order)
+changed h n t m Recover = printing ofRecovered (calls.recover h n t m)
 
--- "I N m with T = 4"
-abbrev pub shortTree : ℕ
-shortTree = 4
+-- all frames free, or all held
+unfoldable pub filled : ℕ → ℕ → ℕ → Init → Mem → Out ℕ Mem
+filled h n t FreeAll m = calls.freeAll h n t m
+filled h n t AllocAll m = calls.reserveAll h n t m
 
--- T of a start, and whether it holds all frames: "m 0 free, 1 held"
-abbrev pub startTree : Line → ℕ
-startTree l = pick (eqb (l .fields) 2) shortTree (l .b)
-
-abbrev pub startHeld : Line → ℕ
-startHeld l = pick (eqb (l .fields) 2) (l .b) (l .c)
-
--- what a turn leaves beside the memory: N, T, and the line it prints
+-- what a line leaves beside the memory: N, T, and the answer that it prints
 abbrev pub turn : ℕ → ℕ → Answer → Turn
 turn n t a = record { n = n; t = t; answer = a }
 
 -- "a refused I keeps the old N and T"
-abbrev pub begun : ℕ → ℕ → Line → Out ℕ Mem → Out Turn Mem
-begun n t l o = out (pick (eqb (o .answer) 0) (turn (l .a) (startTree l) (ofCode 0)) (turn n t (ofCode (o .answer)))) (o .left)
+abbrev pub begun : Turn → Turn → Out ℕ Mem → Out Turn Mem
+begun old new o = out (pick (eqb (o .answer) 0) new old) (o .left)
 
--- all frames free, or all held
-unfoldable pub filled : ℕ → ℕ → ℕ → ℕ → Mem → Out ℕ Mem
-filled h n t held m = pick (eqb held 0) (calls.freeAll h n t m) (calls.reserveAll h n t m)
-
-unfoldable pub started : ℕ → ℕ → ℕ → Mem → Line → Out Turn Mem
+-- "I": a start of frames in trees, after N and T
+unfoldable pub started : ℕ → ℕ → ℕ → Mem → ℕ → ℕ → Init → Out Turn Mem
 unfolding filled
-started h n t m l = begun n t l (filled h (l .a) (startTree l) (startHeld l) m)
+started h n t m frames tree init = let o = filled h frames tree init m in begun (turn n t (ofCode (o .answer))) (turn frames tree (ofCode 0)) o
 
--- "a bad line prints 9 alone"
-unfoldable pub turned : ℕ → ℕ → ℕ → Mem → Line → Out Turn Mem
+-- every line but a start keeps N and T; "a bad line prints 9 alone"
+unfoldable pub answered : ℕ → ℕ → ℕ → Mem → Line → Out Turn Mem
 unfolding asked changed started
-turned h n t m l =
-    pick (eqb (l .letter) 0) (out (turn n t (ofCode 9)) m)
-    (pick (eqb (l .letter) 73) (started h n t m l)
-    (pick (asks (l .letter)) (out (turn n t (asked h n t m l)) m)
-    (out (turn n t (changed h n t m l .answer)) (changed h n t m l .left))))
+answered h n t m (Starts frames tree init) = started h n t m frames tree init
+answered h n t m (Changes c) = out (turn n t (changed h n t m c .answer)) (changed h n t m c .left)
+answered h n t m (Asks q) = out (turn n t (asked h n t m q)) m
+answered h n t m Bad = out (turn n t (ofCode 9)) m

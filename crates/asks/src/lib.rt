@@ -1,13 +1,13 @@
-// The answers of `trace` as it prints them, and the lines that only ask: Q, S, T and A.
+// The answers of `trace` as it prints them, and the calls that only read: those of the lines Q, S, T and A.
 ghost use mathlib.Core.Path.{_≡_};
 ghost use Rattle.base.specs.Size.{hugeOrder};
 ghost use Rattle.rules.specs.State.{mem};
 ghost use Rattle.lines.specs.Answer.{answer};
 ghost use Rattle.asks.specs.Turn as spec;
 use lines::Answer;
-use lines::Line;
+use lines::Question;
 
-// N and T after a turn, and what it prints.
+// What a line leaves beside the memory: N, T, and the answer that it prints.
 pub struct Turn {
     pub n: usize,
     pub t: usize,
@@ -65,26 +65,23 @@ pub fn of_free(free: bitfield_rules::Answered) -> Answer
     }
 }
 
-// Whether a letter only asks.
-pub fn asks(letter: u8) -> bool
-    ensures { λ r. ⌜ r ≡ spec.asks letter ⌝ }
+// Makes a call that only reads.
+pub fn ask(n: usize, t: usize, rows: &[u64], entries: &[u16], question: Question) -> Answer
+    ensures { λ r. ⌜ r ≡ spec.asked hugeOrder n t (mem (now (rows .entry)) (now (entries .entry))) question ⌝ }
 {
-    (letter == b'Q') | ((letter == b'S') | ((letter == b'T') | (letter == b'A')))
-}
-
-// The lines that only ask.
-pub fn ask(n: usize, t: usize, rows: &[u64], entries: &[u16], line: Line) -> Answer
-    ensures { λ r. ⌜ r ≡ spec.asked hugeOrder n t (mem (now (rows .entry)) (now (entries .entry))) line ⌝ }
-{
-    if line.letter == b'Q' {
-        return of_free(lower::is_free(n, t, rows, entries, line.a, line.b));
+    match question {
+        Question::IsFree(frame, order) => {
+            return of_free(lower::is_free(n, t, rows, entries, frame, order));
+        }
+        Question::StatsOfAll => {
+            return of_stats(lower::stats(n, t, rows, entries));
+        }
+        Question::StatsAt(frame, order) => {
+            return of_stats(lower::stats_at(n, t, rows, entries, frame, order));
+        }
+        Question::Audit => {
+            let fault = staff::audit(n, t, rows, entries);
+            return of_two(fault.code, fault.huge, fault.reason as usize);
+        }
     }
-    if line.letter == b'S' {
-        return of_stats(lower::stats(n, t, rows, entries));
-    }
-    if line.letter == b'T' {
-        return of_stats(lower::stats_at(n, t, rows, entries, line.a, line.b));
-    }
-    let fault = staff::audit(n, t, rows, entries);
-    of_two(fault.code, fault.huge, fault.reason as usize)
 }

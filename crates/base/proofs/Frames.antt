@@ -61,21 +61,21 @@ module _ (b : Bool) (v lo hi : ℕ) (h : lo ≤ hi) where
   shifted = ap (λ (x : ℕ). x / 2 ^ lo) overlay-is ∙ high upper lo (mod-lt v (pow-pos lo))
 
   -- below what is written
-  overlay-below : (q : ℕ) → q < lo → bitsAt (overlay b v lo hi) q 1 ≡ bitsAt v q 1
+  pub overlay-below : (q : ℕ) → q < lo → bitsAt (overlay b v lo hi) q 1 ≡ bitsAt v q 1
   overlay-below q l =
       sym (low-bit (overlay b v lo hi) q lo l)
       ∙ ap (λ (x : ℕ). bitsAt x q 1) (ap (λ (x : ℕ). x % 2 ^ lo) overlay-is ∙ low upper lo (mod-lt v (pow-pos lo)))
       ∙ low-bit v q lo l
 
   -- what is written
-  overlay-in : (q : ℕ) → lo ≤ q → q < hi → bitsAt (overlay b v lo hi) q 1 ≡ pick b 1 0
+  pub overlay-in : (q : ℕ) → lo ≤ q → q < hi → bitsAt (overlay b v lo hi) q 1 ≡ pick b 1 0
   unfolding upper
   overlay-in q l u =
       high-bit (overlay b v lo hi) q lo l ∙ ap (λ (x : ℕ). bitsAt x (q - lo) 1) shifted ∙ sym (low-bit upper (q - lo) (hi - lo) (omega arith))
       ∙ ap (λ (x : ℕ). bitsAt x (q - lo) 1) (low (v / 2 ^ hi) (hi - lo) (solid-lt b (hi - lo))) ∙ solid-bit b (hi - lo) (q - lo) (omega arith)
 
   -- above it
-  overlay-above : (q : ℕ) → hi ≤ q → bitsAt (overlay b v lo hi) q 1 ≡ bitsAt v q 1
+  pub overlay-above : (q : ℕ) → hi ≤ q → bitsAt (overlay b v lo hi) q 1 ≡ bitsAt v q 1
   unfolding upper
   overlay-above q l =
       let w : lo + (hi - lo) ≡ hi = omega arith in
@@ -106,12 +106,6 @@ same-bit b rows left f e = ap (λ (v : ℕ). eqb (bitsAt v (f % 64) 1) (pick b 1
 pub zero-bit : (rows : List ℕ) (f : ℕ) → getD rows (f / 64) 0 ≡ 0 → bitIs false rows f ≡ true
 unfolding bitIs
 zero-bit rows f e = ap (λ (v : ℕ). eqb (bitsAt v (f % 64) 1) 0) e ∙ ap (λ (v : ℕ). eqb (v % 2) 0) (zero-div (2 ^ (f % 64)))
-
--- the frames from a up to e are written with b, the others of the first n are as they were, and so the clear ones can be counted
-pub record Wrote (b : Bool) (rows : List ℕ) (a e n : ℕ) (left : List ℕ) : Type 0 where
-  pub inside : (f : ℕ) → a ≤ f → f < e → bitIs b left f ≡ true
-  pub outside : (c : Bool) (f : ℕ) → f < n → (f < a) ⊎ (e ≤ f) → bitIs c left f ≡ bitIs c rows f
-  pub zeros : count (bitIs false left) n 0 + count (bitIs false rows) (e - a) a ≡ count (bitIs false rows) n 0 + pick b 0 (e - a)
 
 module _ (b : Bool) (rows : List ℕ) (a e : ℕ) (h : a ≤ e) where
   -- a frame that a write covers has the bit that was written
@@ -149,18 +143,6 @@ module _ (b : Bool) (rows : List ℕ) (a e : ℕ) (h : a ≤ e) where
       written : (c : Bool) → b ≡ c → count (bitIs false (withBits b rows a e)) (e - a) a ≡ pick c 0 (e - a)
       written true q = count-none (bitIs false (withBits b rows a e)) (e - a) a (λ f o u. bit-written false f (omega arith) o (omega arith) ∙ ap not q)
       written false q = count-of (bitIs false (withBits b rows a e)) (e - a) a (λ f o u. bit-written false f (omega arith) o (omega arith) ∙ ap not q)
-
-  -- said of the rows that a write leaves
-  pub wrote : (n : ℕ) → e ≤ n → n ≤ length rows * 64 → Wrote b rows a e n (withBits b rows a e)
-  wrote n l long = record {
-    inside = λ f lo hi. bit-written b f (omega arith) lo hi ∙ alike-self b;
-    outside = λ c f u out. bit-kept c f (omega arith) out;
-    zeros = zeros-written n l long;
-  }
-    where
-      alike-self : (b : Bool) → alike b b ≡ true
-      alike-self true = refl
-      alike-self false = refl
 
 -- ---- blocks
 

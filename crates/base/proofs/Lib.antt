@@ -1,14 +1,15 @@
 pub mod Clears
 pub mod Codes
-pub mod Stored
 pub mod Counting
 pub mod Frames
 pub mod Masks
 pub mod Parts
 pub mod Rests
+pub mod Rings
 pub mod Rows
 pub mod SameRows
 pub mod Sizes
+pub mod Stored
 pub mod Sums
 pub mod Tests
 pub mod Walks

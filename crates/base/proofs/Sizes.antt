@@ -6,7 +6,7 @@ use native.Mathlib.Omega.{arith}
 use lib.Bits.{bitAnd, and-mask}
 use lib.Dec.{lit<}
 use lib.Pow.{pow-pos, pow-mono, pow-add, mod-mod-pow}
-use Rattle.base.specs.Size.{Huge, rowsOf}
+use Rattle.base.specs.Size.{Huge, rowsPer}
 use Rattle.base.proofs.Masks.{and-block}
 use Rattle.base.proofs.Rests.{block-ends, mod-rows}
 
@@ -15,7 +15,7 @@ pub pow-divides : (o k : ℕ) → o ≤ k → 2 ^ (k - o) * 2 ^ o ≡ 2 ^ k
 pow-divides o k l = sym (pow-add 2 (k - o) o) ∙ ap (λ (x : ℕ). 2 ^ x) (sub-add-cancel l)
 
 -- the frames of a huge frame are those of its rows
-pub rows-frames : {h : ℕ} → Huge h → 2 ^ h ≡ rowsOf h * 64
+pub rows-frames : {h : ℕ} → Huge h → 2 ^ h ≡ rowsPer h * 64
 rows-frames {h} H = sym (pow-divides 6 h (omega (arith, H .low)))
 
 -- they are few enough for any sum of a caller's
@@ -27,12 +27,12 @@ pub frames-many : {h : ℕ} → Huge h → 512 ≤ 2 ^ h
 frames-many H = pow-mono (H .low)
 
 -- the first row of huge frame x begins with its first frame
-pub first-row : {h : ℕ} → Huge h → (x : ℕ) → x * rowsOf h * 64 ≡ x * 2 ^ h
-first-row {h} H x = rw (rows-frames H) (mul-assoc x (rowsOf h) 64)
+pub first-row : {h : ℕ} → Huge h → (x : ℕ) → x * rowsPer h * 64 ≡ x * 2 ^ h
+first-row {h} H x = rw (rows-frames H) (mul-assoc x (rowsPer h) 64)
 
 -- and a row's place in its huge frame is that of its first frame
-pub rows-wrap : {h : ℕ} → Huge h → (row : ℕ) → row % rowsOf h * 64 ≡ row * 64 % 2 ^ h
-rows-wrap {h} H row = rw (rows-frames H) (sym (rw (add-zero (row * 64), add-zero (row % rowsOf h * 64)) at (mod-rows row 0 (rowsOf h) (lit< tt) (pow-pos (h - 6)))))
+pub rows-wrap : {h : ℕ} → Huge h → (row : ℕ) → row % rowsPer h * 64 ≡ row * 64 % 2 ^ h
+rows-wrap {h} H row = rw (rows-frames H) (sym (rw (add-zero (row * 64), add-zero (row % rowsPer h * 64)) at (mod-rows row 0 (rowsPer h) (lit< tt) (pow-pos (h - 6)))))
 
 -- masked by a size less one, a number keeps its rest: what `n & (size(k) - 1)` is
 pub mask-mod : (n k : ℕ) {m : ℕ} → m ≡ 2 ^ k → bitAnd n (m - 1) ≡ n % 2 ^ k

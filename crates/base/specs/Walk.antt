@@ -1,4 +1,5 @@
--- Walks over a range of indices. Every loop of the project is one of them.
+-- Walks over a range of indices. A search is `first`, a test of a run `all`, a statistic `count` or `sum`, a store at each index `written`.
+-- Not so: runs of bits are written by `withBits` of Bits and `replicate`, and the text of `trace` has definitions of its own.
 use mathlib.Core.Bool.{Bool, true, false}
 use mathlib.Core.List.{List}
 use Prim.Native.Nat.{ℕ, zero, suc, _+_}

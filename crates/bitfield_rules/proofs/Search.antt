@@ -11,7 +11,7 @@ use lib.Pow.{pow-pos, pow-add, shr-lt}
 use lib.ListN.{length, getD}
 use borrow.Author.Tests.{eq-eqb, ne-eqb, le-leb, lt-leb, lt-ltb, le-ltb}
 use Rattle.base.specs.Code.{orElse, out}
-use Rattle.base.specs.Size.{Huge, rowsOf}
+use Rattle.base.specs.Size.{Huge, rowsPer}
 use Rattle.base.specs.Bits.{bitsAt, blockIs, withBits}
 use Rattle.base.proofs.Rests.{mod-sum, mod-rows}
 use Rattle.base.proofs.Walks.{first-is, first-never}
@@ -29,22 +29,22 @@ abbrev pub NoneOf : ℕ → List ℕ → ℕ → ℕ → ℕ → Type 0
 NoneOf h rows start o k = (j : ℕ) → j < k → clearAt h rows start o j ≡ false
 
 -- ---- from places to the answer
-module _ (h : ℕ) (rows : List ℕ) (start o : ℕ) (long : length rows ≡ rowsOf h) (low : o ≤ h) where
+module _ (h : ℕ) (rows : List ℕ) (start o : ℕ) (long : length rows ≡ rowsPer h) (low : o ≤ h) where
   unrefused : orderCode h (length rows) o ≡ 0
   unfolding orElse
-  unrefused = rw (eq-eqb (length rows) (rowsOf h) long, le-leb o h low)
+  unrefused = rw (eq-eqb (length rows) (rowsPer h) long, le-leb o h low)
 
   -- a place that is clear, with none before it, is the answer
-  pub search-found : (j : ℕ) → j < 2 ^ (h - o) → NoneOf h rows start o j → clearAt h rows start o j ≡ true → placed 0 (visited h start o j) ≡ firstZeros h rows start o
+  pub answer-found : (j : ℕ) → j < 2 ^ (h - o) → NoneOf h rows start o j → clearAt h rows start o j ≡ true → placed 0 (visited h start o j) ≡ firstZeros h rows start o
   unfolding firstZeros passed
-  search-found j l none hit =
+  answer-found j l none hit =
       let e : passed h rows start o ≡ j = first-is (clearAt h rows start o) (2 ^ (h - o)) 0 j (omega arith) (omega arith) hit (λ k _ c. none k c) in
       rw (eq-eqb (orderCode h (length rows) o) 0 unrefused, e, lt-ltb j (2 ^ (h - o)) l)
 
   -- where no place is clear, the answer is 7
-  pub search-missed : NoneOf h rows start o (2 ^ (h - o)) → placed 7 0 ≡ firstZeros h rows start o
+  pub answer-missed : NoneOf h rows start o (2 ^ (h - o)) → placed 7 0 ≡ firstZeros h rows start o
   unfolding firstZeros passed
-  search-missed none =
+  answer-missed none =
       let e : passed h rows start o ≡ 2 ^ (h - o) = first-never (clearAt h rows start o) (2 ^ (h - o)) 0 (λ k _ c. none k (omega arith)) ∙ zero-add (2 ^ (h - o)) in
       rw (eq-eqb (orderCode h (length rows) o) 0 unrefused, e, le-ltb (2 ^ (h - o)) (2 ^ (h - o)) (omega arith))
 
@@ -59,14 +59,14 @@ module _ (h : ℕ) (rows : List ℕ) (start o : ℕ) {a : Placed} (is : a ≡ fi
   search-stores-nothing n = rw (← is, ne-eqb (a .code) 0 n)
 
 -- a start row counts modulo the rows
-pub start-mod : (h : ℕ) (rows : List ℕ) (start o : ℕ) → firstZeros h rows (start % rowsOf h) o ≡ firstZeros h rows start o
+pub start-mod : (h : ℕ) (rows : List ℕ) (start o : ℕ) → firstZeros h rows (start % rowsPer h) o ≡ firstZeros h rows start o
 unfolding firstZeros passed
-start-mod h rows start o = simp (mod-mod start (rowsOf h))
+start-mod h rows start o = simp (mod-mod start (rowsPer h))
 
 -- ---- to order 6: row by row
 
 -- the places of all rows are all places
-pub all-places : {h : ℕ} (o : ℕ) → Huge h → o ≤ 6 → rowsOf h * 2 ^ (6 - o) ≡ 2 ^ (h - o)
+pub all-places : {h : ℕ} (o : ℕ) → Huge h → o ≤ 6 → rowsPer h * 2 ^ (6 - o) ≡ 2 ^ (h - o)
 all-places {h} o H l =
     let low = H .low in
     let e : h - 6 + (6 - o) ≡ h - o = omega arith in
@@ -74,34 +74,34 @@ all-places {h} o H l =
 
 module _ {h : ℕ} (H : Huge h) (rows : List ℕ) (start o : ℕ) (l6 : o ≤ 6) where
   -- place k of the row that is visited after t others
-  place-in : (t k : ℕ) → k < 2 ^ (6 - o) → visited h start o (t * 2 ^ (6 - o) + k) ≡ (start + t) % rowsOf h * 64 + k * 2 ^ o
+  place-in : (t k : ℕ) → k < 2 ^ (6 - o) → visited h start o (t * 2 ^ (6 - o) + k) ≡ (start + t) % rowsPer h * 64 + k * 2 ^ o
   place-in t k l =
       let full = pow-divides o 6 l6 in
       let fit : (k + 1) * 2 ^ o ≤ 2 ^ (6 - o) * 2 ^ o = mul-le-mul-right (2 ^ o) (omega arith) in
-      let pos : 0 < rowsOf h = pow-pos (h - 6) in
+      let pos : 0 < rowsPer h = pow-pos (h - 6) in
       let p = pow-pos o in
       let small : k * 2 ^ o < 64 = omega arith in
       let w : (t * 2 ^ (6 - o) + k) * 2 ^ o ≡ t * 64 + k * 2 ^ o = add-mul (t * 2 ^ (6 - o)) k (2 ^ o) ∙ ap (λ (x : ℕ). x + k * 2 ^ o) (mul-assoc t (2 ^ (6 - o)) (2 ^ o) ∙ ap (λ (x : ℕ). t * x) full) in
-      let s : start % rowsOf h * 64 + (t * 64 + k * 2 ^ o) ≡ (start % rowsOf h + t) * 64 + k * 2 ^ o = omega arith in
+      let s : start % rowsPer h * 64 + (t * 64 + k * 2 ^ o) ≡ (start % rowsPer h + t) * 64 + k * 2 ^ o = omega arith in
       rw (le-leb o 6 l6, w, s, rows-frames H)
-      (mod-rows (start % rowsOf h + t) (k * 2 ^ o) (rowsOf h) small pos ∙ ap (λ (x : ℕ). x * 64 + k * 2 ^ o) (mod-sum start t (rowsOf h)))
+      (mod-rows (start % rowsPer h + t) (k * 2 ^ o) (rowsPer h) small pos ∙ ap (λ (x : ℕ). x * 64 + k * 2 ^ o) (mod-sum start t (rowsPer h)))
 
   -- is clear where its bits in that row are
-  clear-in : (t k : ℕ) → k < 2 ^ (6 - o) → clearAt h rows start o (t * 2 ^ (6 - o) + k) ≡ eqb (bitsAt (getD rows ((start + t) % rowsOf h) 0) (k * 2 ^ o) (2 ^ o)) 0
+  clear-in : (t k : ℕ) → k < 2 ^ (6 - o) → clearAt h rows start o (t * 2 ^ (6 - o) + k) ≡ eqb (bitsAt (getD rows ((start + t) % rowsPer h) 0) (k * 2 ^ o) (2 ^ o)) 0
   clear-in t k l =
       let full = pow-divides o 6 l6 in
       let fit : (k + 1) * 2 ^ o ≤ 2 ^ (6 - o) * 2 ^ o = mul-le-mul-right (2 ^ o) (omega arith) in
       let p = pow-pos o in
-      let i = (start + t) % rowsOf h in
+      let i = (start + t) % rowsPer h in
       let small : k * 2 ^ o < 64 = omega arith in
-      let row : ((start + t) % rowsOf h * 64 + k * 2 ^ o) / 64 ≡ (start + t) % rowsOf h = omega arith in
-      let bit : ((start + t) % rowsOf h * 64 + k * 2 ^ o) % 64 ≡ k * 2 ^ o = omega arith in
+      let row : ((start + t) % rowsPer h * 64 + k * 2 ^ o) / 64 ≡ (start + t) % rowsPer h = omega arith in
+      let bit : ((start + t) % rowsPer h * 64 + k * 2 ^ o) % 64 ≡ k * 2 ^ o = omega arith in
       ap (λ (q : ℕ). blockIs false rows q (2 ^ o)) (place-in t k l)
       ∙ block-row false rows (i * 64 + k * 2 ^ o) (2 ^ o) (rw bit (omega arith)) ∙ rw (row, bit)
 
   -- a row of whose places below p none is clear, after rows that have none
   module _ (t p : ℕ) (none : NoneOf h rows start o (t * 2 ^ (6 - o))) (high : p ≤ 64)
-      (least : (q : ℕ) → q % 2 ^ o ≡ 0 → q < p → bitsAt (getD rows ((start + t) % rowsOf h) 0) q (2 ^ o) ≡ 0 → ⊥) where
+      (least : (q : ℕ) → q % 2 ^ o ≡ 0 → q < p → bitsAt (getD rows ((start + t) % rowsPer h) 0) q (2 ^ o) ≡ 0 → ⊥) where
     below : (k : ℕ) → k < 2 ^ (6 - o) → k * 2 ^ o < p → clearAt h rows start o (t * 2 ^ (6 - o) + k) ≡ false
     below k l c = clear-in t k l ∙ ne-eqb _ _ (least (k * 2 ^ o) (mul-mod-left k (2 ^ o)) c)
 
@@ -124,20 +124,20 @@ module _ {h : ℕ} (H : Huge h) (rows : List ℕ) (start o : ℕ) (l6 : o ≤ 6)
         rw s (passed-below (2 ^ (6 - o)) (omega arith) (omega (arith, pow-divides o 6 l6)))
 
     -- such a row with a clear block at p
-    pub row-found : length rows ≡ rowsOf h → t < rowsOf h → p < 64 → p % 2 ^ o ≡ 0 → bitsAt (getD rows ((start + t) % rowsOf h) 0) p (2 ^ o) ≡ 0
-        → placed 0 ((start + t) % rowsOf h * 64 + p) ≡ firstZeros h rows start o
+    pub row-found : length rows ≡ rowsPer h → t < rowsPer h → p < 64 → p % 2 ^ o ≡ 0 → bitsAt (getD rows ((start + t) % rowsPer h) 0) p (2 ^ o) ≡ 0
+        → placed 0 ((start + t) % rowsPer h * 64 + p) ≡ firstZeros h rows start o
     row-found long inside low even clear =
         let full = pow-divides o 6 l6 in
         let low9 = H .low in
         let k = p / 2 ^ o in
         let back : p / 2 ^ o * 2 ^ o ≡ p = omega (arith, div-add-mod' p (2 ^ o)) in
         let lk : p / 2 ^ o < 2 ^ (6 - o) = shr-lt (6 - o) o (subst (λ (x : ℕ). p < 2 ^ x) (sym (sub-add-cancel l6)) low) in
-        let le : (t + 1) * 2 ^ (6 - o) ≤ rowsOf h * 2 ^ (6 - o) = mul-le-mul-right (2 ^ (6 - o)) (omega arith) in
+        let le : (t + 1) * 2 ^ (6 - o) ≤ rowsPer h * 2 ^ (6 - o) = mul-le-mul-right (2 ^ (6 - o)) (omega arith) in
         let lj : t * 2 ^ (6 - o) + k < 2 ^ (h - o) = omega (arith, all-places o H l6) in
-        let at : visited h start o (t * 2 ^ (6 - o) + k) ≡ (start + t) % rowsOf h * 64 + p = place-in t k lk ∙ ap (λ (x : ℕ). (start + t) % rowsOf h * 64 + x) back in
+        let at : visited h start o (t * 2 ^ (6 - o) + k) ≡ (start + t) % rowsPer h * 64 + p = place-in t k lk ∙ ap (λ (x : ℕ). (start + t) % rowsPer h * 64 + x) back in
         ap (placed 0) (sym at)
-        ∙ search-found h rows start o long (omega arith) (t * 2 ^ (6 - o) + k) lj (passed-below k (omega arith) (omega arith))
-        (clear-in t k lk ∙ eq-eqb _ _ (ap (λ (x : ℕ). bitsAt (getD rows ((start + t) % rowsOf h) 0) x (2 ^ o)) back ∙ clear))
+        ∙ answer-found h rows start o long (omega arith) (t * 2 ^ (6 - o) + k) lj (passed-below k (omega arith) (omega arith))
+        (clear-in t k lk ∙ eq-eqb _ _ (ap (λ (x : ℕ). bitsAt (getD rows ((start + t) % rowsPer h) 0) x (2 ^ o)) back ∙ clear))
 
 -- ---- above order 6: group by group
 

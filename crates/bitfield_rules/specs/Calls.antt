@@ -5,25 +5,26 @@ use Prim.Native.Nat.{ℕ, _+_, _-_, _*_, _%_, _^_}
 use lib.Dec.{eqb, leb, ltb}
 use lib.ListN.{length, getD, replicate}
 use Rattle.base.specs.Walk.{pick, first, all, count}
+use Rattle.base.specs.Ring.{stepsTo}
 use Rattle.base.specs.Code.{unless, orElse, Out, out, stored}
-use Rattle.base.specs.Size.{rowsOf}
+use Rattle.base.specs.Size.{rowsPer}
 use Rattle.base.specs.Bits.{solid, bitIs, blockIs, withBits}
 use Rattle.bitfield_rules.specs.declared.Placed.{Placed}
-use Rattle.bitfield_rules.specs.declared.Counted.{Counted}
+use Rattle.bitfield_rules.specs.declared.ZeroCount.{ZeroCount}
 use Rattle.bitfield_rules.specs.declared.Answered.{Answered}
 
 abbrev pub placed : ℕ → ℕ → Placed
 placed c p = record { code = c; place = p }
 
-abbrev pub counted : ℕ → ℕ → Counted
-counted c z = record { code = c; zeros = z }
+abbrev pub zeroCount : ℕ → ℕ → ZeroCount
+zeroCount c z = record { code = c; zeros = z }
 
 abbrev pub answered : ℕ → Bool → Answered
 answered c y = record { code = c; yes = y }
 
 -- "Refusal numbers": exactly the rows of a huge frame, else 3
 abbrev pub rowsCode : ℕ → ℕ → ℕ
-rowsCode h len = unless (eqb len (rowsOf h)) 3
+rowsCode h len = unless (eqb len (rowsPer h)) 3
 
 -- .. an order to the huge order, else 4
 abbrev pub orderCode : ℕ → ℕ → ℕ → ℕ
@@ -60,12 +61,12 @@ isZero h rows p o =
     pick (eqb (blockCode h (length rows) p o) 0) (answered 0 (blockIs false rows p (2 ^ o))) (answered (blockCode h (length rows) p o) false)
 
 -- count_zeros: the number of clear bits
-unfoldable pub countZeros : ℕ → List ℕ → Counted
-countZeros h rows = pick (eqb (rowsCode h (length rows)) 0) (counted 0 (count (bitIs false rows) (2 ^ h) 0)) (counted (rowsCode h (length rows)) 0)
+unfoldable pub countZeros : ℕ → List ℕ → ZeroCount
+countZeros h rows = pick (eqb (rowsCode h (length rows)) 0) (zeroCount 0 (count (bitIs false rows) (2 ^ h) 0)) (zeroCount (rowsCode h (length rows)) 0)
 
 -- "Get": the first row that a search visits is the start row modulo the rows; above order 6 it is row 0
 abbrev pub origin : ℕ → ℕ → ℕ → ℕ
-origin h start o = pick (leb o 6) (start % rowsOf h) 0
+origin h start o = pick (leb o 6) (start % rowsPer h) 0
 
 -- the place that a search visits after j others: the aligned places upwards from the origin, wrapping
 abbrev pub visited : ℕ → ℕ → ℕ → ℕ → ℕ
@@ -73,7 +74,7 @@ visited h start o j = (origin h start o * 64 + j * 2 ^ o) % 2 ^ h
 
 -- how far a place lies behind the origin, wrapping: places are visited in the order of this number
 abbrev pub distance : ℕ → ℕ → ℕ → ℕ → ℕ
-distance h start o p = (p + (2 ^ h - origin h start o * 64)) % 2 ^ h
+distance h start o p = stepsTo (2 ^ h) (origin h start o * 64) p
 
 -- how many places a search passes before the first whose bits are all clear
 unfoldable pub passed : ℕ → List ℕ → ℕ → ℕ → ℕ

@@ -7,7 +7,7 @@ pub struct Placed {
 }
 
 // The answer of a count.
-pub struct Counted {
+pub struct ZeroCount {
     pub code: u32,
     pub zeros: usize,
 }

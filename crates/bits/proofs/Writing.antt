@@ -1,5 +1,5 @@
 -- A run of bits written row by row, from the first row on: what is written, and what is left. Assumes nothing.
-use mathlib.Core.Path.{_≡_, refl}
+use mathlib.Core.Path.{_≡_}
 use mathlib.Core.Bool.{Bool}
 use mathlib.Core.List.{List, _++_, append-assoc, append-nil}
 use Prim.Native.Nat.{ℕ, suc, _+_, _-_, _≤_, _<_, min}
@@ -14,10 +14,6 @@ pub record WriteAt (b : Bool) (whole rows : List ℕ) (a e i : ℕ) : Type 0 whe
   pub inside : i ≤ length rows
   pub ordered : a ≤ e
   pub left : take i rows ++ withBits b (drop i rows) a e ≡ whole
-
--- before the first row everything is left
-pub write-start : {b : Bool} {rows : List ℕ} {a e : ℕ} → a ≤ e → WriteAt b (withBits b rows a e) rows a e 0
-write-start h = record { inside = omega arith; ordered = h; left = refl }
 
 -- a row is written from lo up to hi, the parts of a and e that lie in it
 pub write-more : {b : Bool} {whole rows : List ℕ} {a e i lo hi x : ℕ} → WriteAt b whole rows a e i → i < length rows

@@ -1,4 +1,4 @@
-// The lines of `trace` that write: G, P, F and R, and a start, I.
+// The lines of `trace` that write: the calls of G, P, F and R, and a start, I.
 ghost use mathlib.Core.Path.{_≡_};
 ghost use Rattle.base.specs.Code.{out};
 ghost use Rattle.base.specs.Size.{hugeOrder};
@@ -6,53 +6,62 @@ ghost use Rattle.rules.specs.State.{mem};
 ghost use Rattle.asks.specs.Turn as spec;
 use asks::Turn;
 use lines::Answer;
-use lines::Line;
+use lines::Change;
+use rules::Init;
 
-// The tree size of a start that names none.
-const SHORT_TREE: usize = 4;
-
-// The lines that write.
-pub fn change(n: usize, t: usize, rows: &mut [u64], entries: &mut [u16], line: Line) -> Answer
-    ensures { λ r. ⌜ out r (mem (now (rows .exit)) (now (entries .exit))) ≡ spec.changed hugeOrder n t (mem (now (rows .entry)) (now (entries .entry))) line ⌝ }
+// Makes a call that may write.
+pub fn change(n: usize, t: usize, rows: &mut [u64], entries: &mut [u16], call: Change) -> Answer
+    ensures { λ r. ⌜ out r (mem (now (rows .exit)) (now (entries .exit))) ≡ spec.changed hugeOrder n t (mem (now (rows .entry)) (now (entries .entry))) call ⌝ }
 {
-    if line.letter == b'G' {
-        let got = lower::get(n, t, rows, entries, line.a, line.b);
-        return asks::of_two(got.code, got.frame, got.probes);
+    match call {
+        Change::Get(row, order) => {
+            let got = lower::get(n, t, rows, entries, row, order);
+            return asks::of_two(got.code, got.frame, got.probes);
+        }
+        Change::GetAt(frame, order) => {
+            let got = lower::get_at(n, t, rows, entries, frame, order);
+            return asks::of_two(got.code, got.frame, got.probes);
+        }
+        Change::Put(frame, order) => {
+            return asks::of_code(lower::put(n, t, rows, entries, frame, order));
+        }
+        Change::Recover => {
+            let done = staff::recover(n, t, rows, entries);
+            return asks::of_two(done.code, done.entries, done.bitfields);
+        }
     }
-    if line.letter == b'P' {
-        let got = lower::get_at(n, t, rows, entries, line.a, line.b);
-        return asks::of_two(got.code, got.frame, got.probes);
-    }
-    if line.letter == b'F' {
-        return asks::of_code(lower::put(n, t, rows, entries, line.a, line.b));
-    }
-    let done = staff::recover(n, t, rows, entries);
-    asks::of_two(done.code, done.entries, done.bitfields)
 }
 
-// The tree size of a start.
-fn tree_of(line: Line) -> usize
-    ensures { λ r. ⌜ r ≡ spec.startTree line ⌝ }
+// All frames free, or all held.
+fn fill(n: usize, t: usize, init: Init, rows: &mut [u64], entries: &mut [u16]) -> u32
+    ensures { λ r. ⌜ out r (mem (now (rows .exit)) (now (entries .exit))) ≡ spec.filled hugeOrder n t init (mem (now (rows .entry)) (now (entries .entry))) ⌝ }
 {
-    if line.fields == 2 { SHORT_TREE } else { line.b }
+    match init {
+        Init::FreeAll => {
+            return lower::free_all(n, t, rows, entries);
+        }
+        Init::AllocAll => {
+            return lower::reserve_all(n, t, rows, entries);
+        }
+    }
 }
 
-// Whether a start holds all frames, as its line says it.
-fn held_of(line: Line) -> usize
-    ensures { λ r. ⌜ r ≡ spec.startHeld line ⌝ }
+// Makes a start of frames in trees: one that is refused keeps N and T.
+pub fn start(
+    n: usize,
+    t: usize,
+    rows: &mut [u64],
+    entries: &mut [u16],
+    frames: usize,
+    tree: usize,
+    init: Init,
+) -> Turn
+    ensures { λ r. ⌜ out r (mem (now (rows .exit)) (now (entries .exit))) ≡ spec.started hugeOrder n t (mem (now (rows .entry)) (now (entries .entry))) frames tree init ⌝ }
 {
-    if line.fields == 2 { line.b } else { line.c }
-}
-
-// Makes a start: one that is refused keeps N and T.
-pub fn start(n: usize, t: usize, rows: &mut [u64], entries: &mut [u16], line: Line) -> Turn
-    ensures { λ r. ⌜ out r (mem (now (rows .exit)) (now (entries .exit))) ≡ spec.started hugeOrder n t (mem (now (rows .entry)) (now (entries .entry))) line ⌝ }
-{
-    let tree = tree_of(line);
-    let code = begin(line.a, tree, held_of(line), rows, entries);
+    let code = fill(frames, tree, init, rows, entries);
     if code == 0 {
         return Turn {
-            n: line.a,
+            n: frames,
             t: tree,
             answer: asks::of_code(0),
         };
@@ -62,14 +71,4 @@ pub fn start(n: usize, t: usize, rows: &mut [u64], entries: &mut [u16], line: Li
         t: t,
         answer: asks::of_code(code),
     }
-}
-
-// All frames free, or all held.
-fn begin(n: usize, t: usize, held: usize, rows: &mut [u64], entries: &mut [u16]) -> u32
-    ensures { λ r. ⌜ out r (mem (now (rows .exit)) (now (entries .exit))) ≡ spec.filled hugeOrder n t held (mem (now (rows .entry)) (now (entries .entry))) ⌝ }
-{
-    if held == 0 {
-        return lower::free_all(n, t, rows, entries);
-    }
-    lower::reserve_all(n, t, rows, entries)
 }

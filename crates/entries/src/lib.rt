@@ -1,17 +1,57 @@
-// Runs of entries: are they alike, make them alike, sum what they count. Groups, the starts, statistics, recovery and room share these.
+// Entries: the count of one lowered and raised; runs of them: are they alike, make them alike, sum what they count.
 ghost use mathlib.Core.Path.{_≡_};
-ghost use Prim.Native.Nat.{_+_, _^_, _≤_, _<_};
-ghost use lib.ListN.{length};
+ghost use Prim.Native.Nat.{_+_, _-_, _^_, _≤_, _<_};
+ghost use lib.ListN.{length, set};
 ghost use Rattle.base.specs.Walk.{written};
 ghost use Rattle.base.specs.Size.{Huge};
-ghost use Rattle.rules.specs.State.{freeOf, entriesAre, blocksIn};
+ghost use Rattle.rules.specs.State.{entryOf, freeOf, entriesAre, blocksIn};
+
+// The frames of a block, as an entry counts them.
+pub fn size(order: usize) -> u16
+    requires { ⌜ order < 16 ⌝ }
+    ensures { λ r. ⌜ r ≡ 2 ^ order ⌝ }
+{
+    1u16 << order
+}
 
 // The entry of a huge frame that is free whole.
 pub fn whole(h: usize) -> u16
     requires { ⌜ Huge h ⌝ }
     ensures { λ r. ⌜ r ≡ 2 ^ h ⌝ }
 {
-    1u16 << h
+    size(h)
+}
+
+// An entry with a block's frames taken from its count.
+fn lowered(entry: u16, order: usize) -> u16
+    requires { ⌜ (order < 16) × (2 ^ order ≤ entry) ⌝ }
+    ensures { λ r. ⌜ r ≡ entry - 2 ^ order ⌝ }
+{
+    entry - size(order)
+}
+
+// An entry with a block's frames added to its count.
+fn raised(entry: u16, order: usize) -> u16
+    requires { ⌜ (order < 16) × (entry + 2 ^ order < 65536) ⌝ }
+    ensures { λ r. ⌜ r ≡ entry + 2 ^ order ⌝ }
+{
+    entry + size(order)
+}
+
+// Lowers entry x by a block's frames.
+pub fn lower(entries: &mut [u16], x: usize, order: usize)
+    requires { ⌜ (order < 16) × (x < length (now entries)) × (2 ^ order ≤ entryOf (now entries) x) ⌝ }
+    ensures { λ _. ⌜ now (entries .exit) ≡ set (now (entries .entry)) x (entryOf (now (entries .entry)) x - 2 ^ order) ⌝ }
+{
+    entries[x] = lowered(entries[x], order);
+}
+
+// Raises entry x by a block's frames.
+pub fn raise(entries: &mut [u16], x: usize, order: usize)
+    requires { ⌜ (order < 16) × (x < length (now entries)) × (entryOf (now entries) x + 2 ^ order < 65536) ⌝ }
+    ensures { λ _. ⌜ now (entries .exit) ≡ set (now (entries .entry)) x (entryOf (now (entries .entry)) x + 2 ^ order) ⌝ }
+{
+    entries[x] = raised(entries[x], order);
 }
 
 // Whether the g entries from at on are all v.

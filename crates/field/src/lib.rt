@@ -1,11 +1,11 @@
 // The rows of one huge frame, of huge order h: stores, tests and counts of their bits.
 ghost use mathlib.Core.Path.{_≡_};
-ghost use Prim.Native.Nat.{_<_};
 ghost use Rattle.base.specs.Code.{out};
 ghost use Rattle.base.specs.Size.{Huge};
 ghost use Rattle.bitfield_rules.specs.Calls as spec;
+ghost use Rattle.bitfield_rules.specs.Contracts.{Sets, Fills, CountsZeros, TellsZero, Toggles};
 use bitfield_rules::Answered;
-use bitfield_rules::Counted;
+use bitfield_rules::ZeroCount;
 
 // The refusals of a call on the rows of a huge frame, in document 01's order: 0 where there is none.
 fn rows_code(h: usize, len: usize) -> u32
@@ -44,7 +44,7 @@ fn block_code(h: usize, len: usize, place: usize, order: usize) -> u32
 
 pub fn set(h: usize, rows: &mut [u64], start: usize, end: usize, value: bool) -> u32
     requires { ⌜ Huge h ⌝ }
-    ensures { λ r. ⌜ out r (now (rows .exit)) ≡ spec.set h (now (rows .entry)) start end value ⌝ }
+    ensures { λ r. ⌜ Sets h (now (rows .entry)) start end value r (now (rows .exit)) ⌝ }
 {
     let code = rows_code(h, rows.len());
     if code != 0 {
@@ -62,7 +62,7 @@ pub fn set(h: usize, rows: &mut [u64], start: usize, end: usize, value: bool) ->
 
 pub fn fill(h: usize, rows: &mut [u64], value: bool) -> u32
     requires { ⌜ Huge h ⌝ }
-    ensures { λ r. ⌜ out r (now (rows .exit)) ≡ spec.fill h (now (rows .entry)) value ⌝ }
+    ensures { λ r. ⌜ Fills h (now (rows .entry)) value r (now (rows .exit)) ⌝ }
 {
     let code = rows_code(h, rows.len());
     if code != 0 {
@@ -72,18 +72,18 @@ pub fn fill(h: usize, rows: &mut [u64], value: bool) -> u32
     0
 }
 
-pub fn count_zeros(h: usize, rows: &[u64]) -> Counted
+pub fn count_zeros(h: usize, rows: &[u64]) -> ZeroCount
     requires { ⌜ Huge h ⌝ }
-    ensures { λ r. ⌜ r ≡ spec.countZeros h (now (rows .entry)) ⌝ }
+    ensures { λ r. ⌜ CountsZeros h (now (rows .entry)) r ⌝ }
 {
     let code = rows_code(h, rows.len());
     if code != 0 {
-        return Counted {
+        return ZeroCount {
             code: code,
             zeros: 0,
         };
     }
-    Counted {
+    ZeroCount {
         code: 0,
         zeros: bits::zeros(rows),
     }
@@ -91,7 +91,7 @@ pub fn count_zeros(h: usize, rows: &[u64]) -> Counted
 
 pub fn is_zero(h: usize, rows: &[u64], place: usize, order: usize) -> Answered
     requires { ⌜ Huge h ⌝ }
-    ensures { λ r. ⌜ r ≡ spec.isZero h (now (rows .entry)) place order ⌝ }
+    ensures { λ r. ⌜ TellsZero h (now (rows .entry)) place order r ⌝ }
 {
     let code = block_code(h, rows.len(), place, order);
     if code != 0 {
@@ -126,7 +126,7 @@ fn toggle_rows(rows: &mut [u64], expected: bool) -> u32
 
 pub fn toggle(h: usize, rows: &mut [u64], place: usize, order: usize, expected: bool) -> u32
     requires { ⌜ Huge h ⌝ }
-    ensures { λ r. ⌜ out r (now (rows .exit)) ≡ spec.toggle h (now (rows .entry)) place order expected ⌝ }
+    ensures { λ r. ⌜ Toggles h (now (rows .entry)) place order expected r (now (rows .exit)) ⌝ }
 {
     let code = block_code(h, rows.len(), place, order);
     if code != 0 {

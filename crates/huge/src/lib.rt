@@ -4,6 +4,7 @@ ghost use Prim.Native.Nat.{ℕ, _+_, _≤_};
 ghost use lib.ListN.{length};
 ghost use Rattle.base.specs.Code.{out};
 ghost use Rattle.base.specs.Size.{Huge};
+ghost use Rattle.rules.specs.State.{lengths};
 ghost use Rattle.rules.specs.Refusals.{Blocked, Started};
 ghost use Rattle.rules.specs.Get.{getHuge, getHugeAt, takeGroup};
 ghost use Rattle.rules.specs.Queries.{isFreeHuge};
@@ -12,7 +13,7 @@ use rules::Got;
 
 // The first free group of a tree, from the group of the start row on, wrapping.
 pub fn get(h: usize, n: usize, t: usize, entries: &mut [u16], row: usize, order: usize) -> Got
-    requires { ⌜ (Huge h) × (h ≤ order) × ((rl : ℕ) × Started h n t rl (length (now entries)) row order) ⌝ }
+    requires { ⌜ (Huge h) × (h ≤ order) × ((rl : ℕ) × Started h n t (lengths rl (length (now entries))) row order) ⌝ }
     ensures { λ r. ⌜ out r (now (entries .exit)) ≡ getHuge h n t (now (entries .entry)) row order ⌝ }
 {
     let k = shape::tree_log(t);
@@ -63,7 +64,7 @@ fn take(h: usize, n: usize, entries: &mut [u16], at: usize, g: usize, probes: us
 
 // The group at a frame, if it is free.
 pub fn get_at(h: usize, entries: &mut [u16], frame: usize, order: usize) -> Got
-    requires { ⌜ (Huge h) × (h ≤ order) × ((n : ℕ) × (t : ℕ) × (rl : ℕ) × Blocked h n t rl (length (now entries)) frame order) ⌝ }
+    requires { ⌜ (Huge h) × (h ≤ order) × ((n : ℕ) × (t : ℕ) × (rl : ℕ) × Blocked h n t (lengths rl (length (now entries))) frame order) ⌝ }
     ensures { λ r. ⌜ out r (now (entries .exit)) ≡ getHugeAt h (now (entries .entry)) frame order ⌝ }
 {
     let at = shape::frame_huge(h, frame);
@@ -85,7 +86,7 @@ pub fn get_at(h: usize, entries: &mut [u16], frame: usize, order: usize) -> Got
 
 // Gives back a group that is held whole.
 pub fn put(h: usize, entries: &mut [u16], frame: usize, order: usize) -> u32
-    requires { ⌜ (Huge h) × (h ≤ order) × ((n : ℕ) × (t : ℕ) × (rl : ℕ) × Blocked h n t rl (length (now entries)) frame order) ⌝ }
+    requires { ⌜ (Huge h) × (h ≤ order) × ((n : ℕ) × (t : ℕ) × (rl : ℕ) × Blocked h n t (lengths rl (length (now entries))) frame order) ⌝ }
     ensures { λ r. ⌜ out r (now (entries .exit)) ≡ putHuge h (now (entries .entry)) frame order ⌝ }
 {
     let at = shape::frame_huge(h, frame);
@@ -99,7 +100,7 @@ pub fn put(h: usize, entries: &mut [u16], frame: usize, order: usize) -> u32
 
 // Whether a group is free.
 pub fn is_free(h: usize, entries: &[u16], frame: usize, order: usize) -> bool
-    requires { ⌜ (Huge h) × (h ≤ order) × ((n : ℕ) × (t : ℕ) × (rl : ℕ) × Blocked h n t rl (length (now entries)) frame order) ⌝ }
+    requires { ⌜ (Huge h) × (h ≤ order) × ((n : ℕ) × (t : ℕ) × (rl : ℕ) × Blocked h n t (lengths rl (length (now entries))) frame order) ⌝ }
     ensures { λ r. ⌜ r ≡ isFreeHuge h (now (entries .entry)) frame order ⌝ }
 {
     entries::are(

@@ -1,5 +1,4 @@
 pub mod Cases
-pub mod Ends
 pub mod Laws
 pub mod OneField
 pub mod Pastes

@@ -13,6 +13,7 @@ use Rattle.base.specs.Walk.{pick}
 use Rattle.decimal.specs.declared.Number.{Number}
 use Rattle.decimal.specs.Decimal.{places, decimal, isDigit, number, numberAt}
 use Rattle.decimal.proofs.Laws.{Read, read-written, written-read}
+use Rattle.lines.specs.Bytes.{space}
 use Rattle.lines.specs.Read.{field, fieldAt}
 use Rattle.lines.proofs.Cases.{field-there}
 
@@ -23,7 +24,7 @@ pub record Field (l : List ℕ) (at n e : ℕ) : Type 0 where
   pub fits : n < 2 ^ 64
   pub text : drop at l ≡ field n ++ drop e l
 
-stands : (l : List ℕ) (at n e : ℕ) → getD l at 0 ≡ 32 → Read l (at + 1) n e → Field l at n e
+stands : (l : List ℕ) (at n e : ℕ) → getD l at 0 ≡ space → Read l (at + 1) n e → Field l at n e
 stands l at n e s r = record {
   begins = omega (arith, r .begins);
   within = r .within;
@@ -41,11 +42,11 @@ stands l at n e s r = record {
 
 -- what was read stands there
 pub field-stands : (l : List ℕ) (at : ℕ) (x : Number) → x ≡ fieldAt l at → x .good ≡ true → Field l at (x .value) (x .next)
-field-stands l at x e g = go (eqb (getD l at 0) 32) refl e
+field-stands l at x e g = go (eqb (getD l at 0) space) refl e
   where
-    go : (b : Bool) → eqb (getD l at 0) 32 ≡ b → x ≡ pick b (numberAt l (at + 1)) (number false 0 0) → Field l at (x .value) (x .next)
+    go : (b : Bool) → eqb (getD l at 0) space ≡ b → x ≡ pick b (numberAt l (at + 1)) (number false 0 0) → Field l at (x .value) (x .next)
     go true q e =
-        stands l at (x .value) (x .next) (eqb-true (getD l at 0) 32 q)
+        stands l at (x .value) (x .next) (eqb-true (getD l at 0) space q)
         (written-read l (at + 1) (x .value) (x .next) (sym e ∙ ap (λ (b : Bool). number b (x .value) (x .next)) g))
     go false q e = absurd (true≢false (sym g ∙ ap (λ (n : Number). n .good) e))
 
@@ -53,5 +54,5 @@ field-stands l at x e g = go (eqb (getD l at 0) 32) refl e
 pub field-read : (l pre : List ℕ) (at n : ℕ) (rest : List ℕ) → l ≡ pre ++ (field n ++ rest) → at ≡ length pre → n < 2 ^ 64 → isDigit (getD rest 0 0) ≡ false
     → number true n (at + 1 + places n) ≡ fieldAt l at
 field-read l pre at n rest e f h s =
-    rw (e, f) (field-there (pre ++ (field n ++ rest)) (length pre) (getD-append-seam pre 32 (decimal n ++ rest) 0)
-    (sym (rw (append-snoc pre 32 (decimal n ++ rest), length-append pre (32 ∷ [])) at (read-written (pre ++ (32 ∷ [])) n rest h s))))
+    rw (e, f) (field-there (pre ++ (field n ++ rest)) (length pre) (getD-append-seam pre space (decimal n ++ rest) 0)
+    (sym (rw (append-snoc pre space (decimal n ++ rest), length-append pre (space ∷ [])) at (read-written (pre ++ (space ∷ [])) n rest h s))))

@@ -11,6 +11,7 @@ use Rattle.base.specs.Code.{Out, out}
 use Rattle.decimal.specs.Decimal.{decimal, numberTo}
 use Rattle.decimal.proofs.Laws.{length-decimal}
 use Rattle.lines.specs.Answer.{textTo}
+use Rattle.lines.proofs.Texts.{decimal-short}
 
 paste-behind : (l s t : List ℕ) (at : ℕ) → at + length s ≤ length l
     → paste (paste l at s (length s)) (at + length s) t (length t) ≡ paste l at (s ++ t) (length (s ++ t))
@@ -46,3 +47,7 @@ text-number l at n = rw (length-decimal n)
 -- where a text ends
 pub text-ends : (l s : List ℕ) (at : ℕ) {r : ℕ} {l′ : List ℕ} → out r l′ ≡ textTo l at s → r ≡ at + length s
 text-ends l s at e = ap (λ (o : Out ℕ (List ℕ)). o .answer) e
+
+-- where a number ends
+pub number-ends : (l : List ℕ) (at n : ℕ) {r : ℕ} {l′ : List ℕ} → out r l′ ≡ numberTo l at n → r ≤ at + 20
+number-ends l at n e = omega (arith, text-ends l (decimal n) at (e ∙ text-number l at n), decimal-short n)

@@ -6,6 +6,7 @@ use lib.Seq.{paste}
 use Rattle.base.specs.Code.{Out, out}
 use Rattle.decimal.specs.Decimal.{decimal}
 use Rattle.lines.specs.declared.Answer.{Answer}
+use Rattle.lines.specs.Bytes.{LF}
 use Rattle.lines.specs.Read.{fieldsText}
 
 abbrev pub answer : ℕ → ℕ → ℕ → ℕ → ℕ → Answer
@@ -13,7 +14,7 @@ answer c k a b d = record { code = c; fields = k; a = a; b = b; c = d }
 
 -- the code, as many numbers as there are fields, one space before each, and LF
 unfoldable pub answerText : Answer → List ℕ
-answerText r = decimal (r .code) ++ fieldsText (r .fields) (r .a) (r .b) (r .c) ++ (10 ∷ [])
+answerText r = decimal (r .code) ++ fieldsText (r .fields) (r .a) (r .b) (r .c) ++ (LF ∷ [])
 
 -- a text with another from a place on, and where the other ends
 abbrev pub textTo : List ℕ → ℕ → List ℕ → Out ℕ (List ℕ)

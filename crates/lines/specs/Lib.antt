@@ -1,3 +1,4 @@
 pub mod Answer
-pub mod Input
+pub mod Bytes
+pub mod Good
 pub mod Read

@@ -1,20 +1,41 @@
-// The line language of `trace`: a line is read to a call, the call is made, and its answer is written as a line.
+// The line language of `trace`: what a line asks for, and an answer written as a line.
 ghost use mathlib.Core.Path.{_≡_};
-ghost use Prim.Native.Nat.{_+_, _≤_, _<_, min};
+ghost use Prim.Native.Nat.{_+_, _≤_, _<_};
 ghost use lib.ListN.{length};
 ghost use Rattle.base.specs.Code.{out};
-ghost use Rattle.lines.specs.Read.{bad, alone, ofBlock, isCall, fieldAt, threeOf, fieldsOf, readLine, field, fieldsText};
+ghost use Rattle.lines.specs.Read.{lineAlone, lineStart, lineTwo, fieldAt, threeOf, twoOf, readLine, field, fieldsText};
 ghost use Rattle.lines.specs.Answer.{textTo, answerTo};
-ghost use Rattle.lines.specs.Input.{lineEnd, keptTo};
 use decimal::Number;
+use rules::Init;
 
-// A line's letter and its numbers. A bad line is all zeros, for no line has the letter 0.
-pub struct Line {
-    pub letter: u8,
-    pub fields: usize,
-    pub a: usize,
-    pub b: usize,
-    pub c: usize,
+// The most bytes of a line before its LF.
+const LINE_MAX: usize = 64;
+
+// The tree size of a start that names none.
+const SHORT_TREE: usize = 4;
+
+// A call that may write: G, P, F and R.
+pub enum Change {
+    Get(usize, usize),
+    GetAt(usize, usize),
+    Put(usize, usize),
+    Recover,
+}
+
+// A call that only reads: Q, S, T and A.
+pub enum Question {
+    IsFree(usize, usize),
+    StatsOfAll,
+    StatsAt(usize, usize),
+    Audit,
+}
+
+// What a line asks for: a start, I, of N frames in trees of T; one of the other calls; or nothing, where it is bad.
+pub enum Line {
+    Starts(usize, usize, Init),
+    Changes(Change),
+    Asks(Question),
+    Bad,
 }
 
 // An answer: a code, and as many numbers beside it as fields says.
@@ -42,17 +63,58 @@ fn field(line: &[u8], at: usize) -> Number
     }
 }
 
-// A bad line.
-fn bad() -> Line
-    ensures { λ r. ⌜ r ≡ bad ⌝ }
+// A letter alone.
+fn line_alone(letter: u8) -> Line
+    ensures { λ r. ⌜ r ≡ lineAlone letter ⌝ }
 {
-    Line {
-        letter: 0,
-        fields: 0,
-        a: 0,
-        b: 0,
-        c: 0,
+    if letter == b'S' {
+        return Line::Asks(Question::StatsOfAll);
     }
+    if letter == b'A' {
+        return Line::Asks(Question::Audit);
+    }
+    if letter == b'R' {
+        return Line::Changes(Change::Recover);
+    }
+    Line::Bad
+}
+
+// A start, whose last number says how it leaves the frames.
+fn line_start(n: usize, t: usize, m: usize) -> Line
+    ensures { λ r. ⌜ r ≡ lineStart n t m ⌝ }
+{
+    if m == 0 {
+        return Line::Starts(n, t, Init::FreeAll);
+    }
+    if m == 1 {
+        return Line::Starts(n, t, Init::AllocAll);
+    }
+    Line::Bad
+}
+
+// A letter and two numbers.
+fn line_two(letter: u8, a: usize, b: usize) -> Line
+    ensures { λ r. ⌜ r ≡ lineTwo letter a b ⌝ }
+{
+    if letter == b'G' {
+        return Line::Changes(Change::Get(a, b));
+    }
+    if letter == b'P' {
+        return Line::Changes(Change::GetAt(a, b));
+    }
+    if letter == b'F' {
+        return Line::Changes(Change::Put(a, b));
+    }
+    if letter == b'Q' {
+        return Line::Asks(Question::IsFree(a, b));
+    }
+    if letter == b'T' {
+        return Line::Asks(Question::StatsAt(a, b));
+    }
+    if letter == b'I' {
+        return line_start(a, SHORT_TREE, b);
+    }
+    Line::Bad
 }
 
 // A letter and three numbers, where the line ends with the third.
@@ -61,90 +123,42 @@ fn three(line: &[u8], x: Number, y: Number, z: Number) -> Line
     ensures { λ r. ⌜ r ≡ threeOf (now (line .entry)) x y z ⌝ }
 {
     if z.good & (z.next == line.len()) {
-        return Line {
-            letter: line[0],
-            fields: 3,
-            a: x.value,
-            b: y.value,
-            c: z.value,
-        };
+        if line[0] == b'I' {
+            return line_start(x.value, y.value, z.value);
+        }
     }
-    bad()
+    Line::Bad
 }
 
-// Reads a letter and its fields, whatever the letter.
-fn fields(line: &[u8]) -> Line
-    ensures { λ r. ⌜ r ≡ fieldsOf (now (line .entry)) ⌝ }
+// A letter and two numbers, where the line ends with the second, or three.
+fn two(line: &[u8], x: Number, y: Number) -> Line
+    requires { ⌜ 0 < length (now line) ⌝ }
+    ensures { λ r. ⌜ r ≡ twoOf (now (line .entry)) x y ⌝ }
 {
-    if line.len() == 0 {
-        return bad();
-    }
-    let letter = line[0];
-    if line.len() == 1 {
-        return Line {
-            letter: letter,
-            fields: 0,
-            a: 0,
-            b: 0,
-            c: 0,
-        };
-    }
-    let x = field(line, 1);
-    if !x.good {
-        return bad();
-    }
-    let y = field(line, x.next);
     if !y.good {
-        return bad();
+        return Line::Bad;
     }
     if y.next == line.len() {
-        return Line {
-            letter: letter,
-            fields: 2,
-            a: x.value,
-            b: y.value,
-            c: 0,
-        };
+        return line_two(line[0], x.value, y.value);
     }
     three(line, x, y, field(line, y.next))
-}
-
-// Whether a letter is a call without numbers.
-fn alone(letter: u8) -> bool
-    ensures { λ r. ⌜ r ≡ alone letter ⌝ }
-{
-    (letter == b'S') | (letter == b'A') | (letter == b'R')
-}
-
-// Whether a letter is a call on a block.
-fn of_block(letter: u8) -> bool
-    ensures { λ r. ⌜ r ≡ ofBlock letter ⌝ }
-{
-    (letter == b'G') | (letter == b'P') | (letter == b'F') | (letter == b'Q') | (letter == b'T')
-}
-
-// Whether a letter goes with its numbers.
-fn is_call(call: Line) -> bool
-    ensures { λ r. ⌜ r ≡ isCall call ⌝ }
-{
-    let starts = ((call.fields == 2) & (call.b <= 1)) | ((call.fields == 3) & (call.c <= 1));
-    (alone(call.letter) & (call.fields == 0))
-        | (of_block(call.letter) & (call.fields == 2))
-        | ((call.letter == b'I') & starts)
 }
 
 // Reads a line, without its LF.
 pub fn read(line: &[u8]) -> Line
     ensures { λ r. ⌜ r ≡ readLine (now (line .entry)) ⌝ }
 {
-    if 64 < line.len() {
-        return bad();
+    if LINE_MAX < line.len() {
+        return Line::Bad;
     }
-    let call = fields(line);
-    if is_call(call) {
-        return call;
+    if line.len() == 1 {
+        return line_alone(line[0]);
     }
-    bad()
+    let x = field(line, 1);
+    if !x.good {
+        return Line::Bad;
+    }
+    two(line, x, field(line, x.next))
 }
 
 // Writes a space and a number from a place on, and answers where they end.
@@ -184,39 +198,4 @@ pub fn write(text: &mut [u8], at: usize, answer: Answer) -> usize
     let end = write_fields(text, code, answer);
     text[end] = b'\n';
     end + 1
-}
-
-// Where the line that goes on at a place of the input ends: at its LF, or where the input ends so far.
-pub fn end(input: &[u8], at: usize) -> usize
-    ensures { λ r. ⌜ r ≡ lineEnd (now (input .entry)) at ⌝ }
-{
-    let mut i = at;
-    while i < input.len() {
-        if input[i] == b'\n' {
-            return i;
-        }
-        i += 1;
-    }
-    i
-}
-
-// The lesser of two numbers.
-fn lesser(a: usize, b: usize) -> usize
-    ensures { λ r. ⌜ r ≡ min a b ⌝ }
-{
-    if a < b { a } else { b }
-}
-
-// Keeps a part of a line behind what is kept of it, up to sixty-five bytes: a longer line is bad, whatever follows.
-pub fn keep(line: &mut [u8], kept: usize, part: &[u8]) -> usize
-    requires { ⌜ (kept ≤ 65) × (65 ≤ length (now line)) ⌝ }
-    ensures { λ r. ⌜ out r (now (line .exit)) ≡ keptTo (now (line .entry)) kept (now (part .entry)) ⌝ }
-{
-    let n = lesser(part.len(), 65 - kept);
-    let mut i = 0;
-    while i < n {
-        line[kept + i] = part[i];
-        i += 1;
-    }
-    kept + n
 }

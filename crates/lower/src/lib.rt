@@ -1,24 +1,22 @@
 // The lower level: document 01's calls on N frames in trees of T huge frames, over lent rows and entries. Each takes any
 // numbers and any contents, and a call that is refused writes nothing.
-ghost use mathlib.Core.Path.{_≡_};
-ghost use Rattle.base.specs.Code.{out};
 ghost use Rattle.base.specs.Size.{hugeOrder};
 ghost use Rattle.rules.specs.State.{mem};
-ghost use Rattle.rules.specs.Calls as spec;
+ghost use Rattle.rules.specs.Contracts.{Gets, GetsAt, Puts, AsksFree, TellsStats, TellsStatsAt, FreesAll, ReservesAll};
 use bitfield_rules::Answered;
 use rules::Got;
 use rules::Stats;
 
 // Starts with all frames below N free.
 pub fn free_all(n: usize, t: usize, rows: &mut [u64], entries: &mut [u16]) -> u32
-    ensures { λ r. ⌜ out r (mem (now (rows .exit)) (now (entries .exit))) ≡ spec.freeAll hugeOrder n t (mem (now (rows .entry)) (now (entries .entry))) ⌝ }
+    ensures { λ r. ⌜ FreesAll hugeOrder n t (mem (now (rows .entry)) (now (entries .entry))) r (mem (now (rows .exit)) (now (entries .exit))) ⌝ }
 {
     lower_h::free_all(base::HUGE_ORDER, n, t, rows, entries)
 }
 
 // Starts with all frames below N held.
 pub fn reserve_all(n: usize, t: usize, rows: &mut [u64], entries: &mut [u16]) -> u32
-    ensures { λ r. ⌜ out r (mem (now (rows .exit)) (now (entries .exit))) ≡ spec.reserveAll hugeOrder n t (mem (now (rows .entry)) (now (entries .entry))) ⌝ }
+    ensures { λ r. ⌜ ReservesAll hugeOrder n t (mem (now (rows .entry)) (now (entries .entry))) r (mem (now (rows .exit)) (now (entries .exit))) ⌝ }
 {
     lower_h::reserve_all(base::HUGE_ORDER, n, t, rows, entries)
 }
@@ -32,7 +30,7 @@ pub fn get(
     row: usize,
     order: usize,
 ) -> Got
-    ensures { λ r. ⌜ out r (mem (now (rows .exit)) (now (entries .exit))) ≡ spec.get hugeOrder n t (mem (now (rows .entry)) (now (entries .entry))) row order ⌝ }
+    ensures { λ r. ⌜ Gets hugeOrder n t (mem (now (rows .entry)) (now (entries .entry))) row order r (mem (now (rows .exit)) (now (entries .exit))) ⌝ }
 {
     lower_h::get(base::HUGE_ORDER, n, t, rows, entries, row, order)
 }
@@ -46,7 +44,7 @@ pub fn get_at(
     frame: usize,
     order: usize,
 ) -> Got
-    ensures { λ r. ⌜ out r (mem (now (rows .exit)) (now (entries .exit))) ≡ spec.getAt hugeOrder n t (mem (now (rows .entry)) (now (entries .entry))) frame order ⌝ }
+    ensures { λ r. ⌜ GetsAt hugeOrder n t (mem (now (rows .entry)) (now (entries .entry))) frame order r (mem (now (rows .exit)) (now (entries .exit))) ⌝ }
 {
     lower_h::get_at(base::HUGE_ORDER, n, t, rows, entries, frame, order)
 }
@@ -60,7 +58,7 @@ pub fn put(
     frame: usize,
     order: usize,
 ) -> u32
-    ensures { λ r. ⌜ out r (mem (now (rows .exit)) (now (entries .exit))) ≡ spec.put hugeOrder n t (mem (now (rows .entry)) (now (entries .entry))) frame order ⌝ }
+    ensures { λ r. ⌜ Puts hugeOrder n t (mem (now (rows .entry)) (now (entries .entry))) frame order r (mem (now (rows .exit)) (now (entries .exit))) ⌝ }
 {
     lower_h::put(base::HUGE_ORDER, n, t, rows, entries, frame, order)
 }
@@ -74,14 +72,14 @@ pub fn is_free(
     frame: usize,
     order: usize,
 ) -> Answered
-    ensures { λ r. ⌜ r ≡ spec.isFree hugeOrder n t (mem (now (rows .entry)) (now (entries .entry))) frame order ⌝ }
+    ensures { λ r. ⌜ AsksFree hugeOrder n t (mem (now (rows .entry)) (now (entries .entry))) frame order r ⌝ }
 {
     lower_h::is_free(base::HUGE_ORDER, n, t, rows, entries, frame, order)
 }
 
 // Free frames, huge frames and trees.
 pub fn stats(n: usize, t: usize, rows: &[u64], entries: &[u16]) -> Stats
-    ensures { λ r. ⌜ r ≡ spec.stats hugeOrder n t (mem (now (rows .entry)) (now (entries .entry))) ⌝ }
+    ensures { λ r. ⌜ TellsStats hugeOrder n t (mem (now (rows .entry)) (now (entries .entry))) r ⌝ }
 {
     lower_h::stats(base::HUGE_ORDER, n, t, rows, entries)
 }
@@ -95,7 +93,7 @@ pub fn stats_at(
     frame: usize,
     order: usize,
 ) -> Stats
-    ensures { λ r. ⌜ r ≡ spec.statsAt hugeOrder n t (mem (now (rows .entry)) (now (entries .entry))) frame order ⌝ }
+    ensures { λ r. ⌜ TellsStatsAt hugeOrder n t (mem (now (rows .entry)) (now (entries .entry))) frame order r ⌝ }
 {
     lower_h::stats_at(base::HUGE_ORDER, n, t, rows, entries, frame, order)
 }

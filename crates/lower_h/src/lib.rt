@@ -1,16 +1,14 @@
 // The calls of `lower` over the huge order h, for callers that have it as a value.
-ghost use mathlib.Core.Path.{_≡_};
-ghost use Rattle.base.specs.Code.{out};
 ghost use Rattle.base.specs.Size.{Huge};
 ghost use Rattle.rules.specs.State.{mem};
-ghost use Rattle.rules.specs.Calls as spec;
+ghost use Rattle.rules.specs.Contracts.{Gets, GetsAt, Puts, AsksFree, TellsStats, TellsStatsAt, FreesAll, ReservesAll};
 use bitfield_rules::Answered;
 use rules::Got;
 use rules::Stats;
 
 pub fn free_all(h: usize, n: usize, t: usize, rows: &mut [u64], entries: &mut [u16]) -> u32
     requires { ⌜ Huge h ⌝ }
-    ensures { λ r. ⌜ out r (mem (now (rows .exit)) (now (entries .exit))) ≡ spec.freeAll h n t (mem (now (rows .entry)) (now (entries .entry))) ⌝ }
+    ensures { λ r. ⌜ FreesAll h n t (mem (now (rows .entry)) (now (entries .entry))) r (mem (now (rows .exit)) (now (entries .exit))) ⌝ }
 {
     let code = refuse::sizes(h, n, t, rows.len(), entries.len());
     if code != 0 {
@@ -22,7 +20,7 @@ pub fn free_all(h: usize, n: usize, t: usize, rows: &mut [u64], entries: &mut [u
 
 pub fn reserve_all(h: usize, n: usize, t: usize, rows: &mut [u64], entries: &mut [u16]) -> u32
     requires { ⌜ Huge h ⌝ }
-    ensures { λ r. ⌜ out r (mem (now (rows .exit)) (now (entries .exit))) ≡ spec.reserveAll h n t (mem (now (rows .entry)) (now (entries .entry))) ⌝ }
+    ensures { λ r. ⌜ ReservesAll h n t (mem (now (rows .entry)) (now (entries .entry))) r (mem (now (rows .exit)) (now (entries .exit))) ⌝ }
 {
     let code = refuse::sizes(h, n, t, rows.len(), entries.len());
     if code != 0 {
@@ -42,7 +40,7 @@ pub fn get(
     order: usize,
 ) -> Got
     requires { ⌜ Huge h ⌝ }
-    ensures { λ r. ⌜ out r (mem (now (rows .exit)) (now (entries .exit))) ≡ spec.get h n t (mem (now (rows .entry)) (now (entries .entry))) row order ⌝ }
+    ensures { λ r. ⌜ Gets h n t (mem (now (rows .entry)) (now (entries .entry))) row order r (mem (now (rows .exit)) (now (entries .exit))) ⌝ }
 {
     let code = refuse::start(h, n, t, rows.len(), entries.len(), row, order);
     if code != 0 {
@@ -68,7 +66,7 @@ pub fn get_at(
     order: usize,
 ) -> Got
     requires { ⌜ Huge h ⌝ }
-    ensures { λ r. ⌜ out r (mem (now (rows .exit)) (now (entries .exit))) ≡ spec.getAt h n t (mem (now (rows .entry)) (now (entries .entry))) frame order ⌝ }
+    ensures { λ r. ⌜ GetsAt h n t (mem (now (rows .entry)) (now (entries .entry))) frame order r (mem (now (rows .exit)) (now (entries .exit))) ⌝ }
 {
     let code = refuse::block(h, n, t, rows.len(), entries.len(), frame, order);
     if code != 0 {
@@ -94,7 +92,7 @@ pub fn put(
     order: usize,
 ) -> u32
     requires { ⌜ Huge h ⌝ }
-    ensures { λ r. ⌜ out r (mem (now (rows .exit)) (now (entries .exit))) ≡ spec.put h n t (mem (now (rows .entry)) (now (entries .entry))) frame order ⌝ }
+    ensures { λ r. ⌜ Puts h n t (mem (now (rows .entry)) (now (entries .entry))) frame order r (mem (now (rows .exit)) (now (entries .exit))) ⌝ }
 {
     let code = refuse::block(h, n, t, rows.len(), entries.len(), frame, order);
     if code != 0 {
@@ -116,7 +114,7 @@ pub fn is_free(
     order: usize,
 ) -> Answered
     requires { ⌜ Huge h ⌝ }
-    ensures { λ r. ⌜ r ≡ spec.isFree h n t (mem (now (rows .entry)) (now (entries .entry))) frame order ⌝ }
+    ensures { λ r. ⌜ AsksFree h n t (mem (now (rows .entry)) (now (entries .entry))) frame order r ⌝ }
 {
     let code = refuse::block(h, n, t, rows.len(), entries.len(), frame, order);
     if code != 0 {
@@ -139,7 +137,7 @@ pub fn is_free(
 
 pub fn stats(h: usize, n: usize, t: usize, rows: &[u64], entries: &[u16]) -> Stats
     requires { ⌜ Huge h ⌝ }
-    ensures { λ r. ⌜ r ≡ spec.stats h n t (mem (now (rows .entry)) (now (entries .entry))) ⌝ }
+    ensures { λ r. ⌜ TellsStats h n t (mem (now (rows .entry)) (now (entries .entry))) r ⌝ }
 {
     let code = refuse::sizes(h, n, t, rows.len(), entries.len());
     if code != 0 {
@@ -163,7 +161,7 @@ pub fn stats_at(
     order: usize,
 ) -> Stats
     requires { ⌜ Huge h ⌝ }
-    ensures { λ r. ⌜ r ≡ spec.statsAt h n t (mem (now (rows .entry)) (now (entries .entry))) frame order ⌝ }
+    ensures { λ r. ⌜ TellsStatsAt h n t (mem (now (rows .entry)) (now (entries .entry))) frame order r ⌝ }
 {
     let code = refuse::frame(h, n, t, rows.len(), entries.len(), frame);
     if code != 0 {

@@ -1,2 +1,3 @@
 pub mod Flags
+pub mod Results
 pub mod Runs

@@ -4,11 +4,15 @@ use mathlib.Core.Bool.{Bool, true, false}
 use mathlib.Core.List.{[]}
 use Prim.Native.Nat.{ℕ}
 use lib.Dec.{eqb}
-use lib.ListN.{take, drop}
+use lib.ListN.{length, take, drop}
+use borrow.Author.Tests.{eq-eqb, ne-eqb}
 use Rattle.base.specs.Walk.{pick}
+use Rattle.base.specs.Size.{Huge}
+use Rattle.base.proofs.Parts.{part-long}
 use Rattle.rules.specs.Numbers.{treeAt}
-use Rattle.rules.specs.State.{Mem}
+use Rattle.rules.specs.State.{Mem, lengthsOf}
 use Rattle.rules.specs.Refusals.{frameRefusal}
+use Rattle.rules.proofs.Lent.{framed, frame-tree}
 use Rattle.rules.specs.Room.{runOf}
 use Rattle.rules.specs.Room as staff
 use Rattle.ravelbeam.specs.Run.{run, treeRun}
@@ -21,3 +25,12 @@ run-placed h n t m f = go (eqb (frameRefusal h n t m f) 0)
         ≡ pick b (runOf h t (m .entries) f) []
     go true = refl
     go false = refl
+
+-- its length by the part that was handed back: none where the call is refused
+pub run-refused : (h n t : ℕ) (m : Mem) (f : ℕ) → (frameRefusal h n t m f ≡ 0 → ⊥) → length (staff.treeRun h n t m f) ≡ 0
+unfolding staff.treeRun
+run-refused h n t m f differs = rw (ne-eqb (frameRefusal h n t m f) 0 differs)
+
+pub run-long : {h : ℕ} → Huge h → (n t : ℕ) (m : Mem) (f : ℕ) → frameRefusal h n t m f ≡ 0 → length (staff.treeRun h n t m f) ≡ t
+unfolding staff.treeRun
+run-long {h} H n t m f e = rw (eq-eqb (frameRefusal h n t m f) 0 e) (part-long (m .entries) (treeAt h t f) t (frame-tree H (framed h n t (lengthsOf m) f e)))

@@ -1,18 +1,16 @@
 // The calls for programs in C and Rust: numbers and slices alone, further results through lent numbers, which every call
-// writes. Each wrapper states its call's own definition again.
-ghost use mathlib.Core.Path.{_≡_};
-ghost use Rattle.base.specs.Code.{out};
+// writes. Each has its call's own contract, or one of specs/Contracts where its numbers are others.
 ghost use Rattle.base.specs.Size.{hugeOrder};
-ghost use Rattle.row.specs.Row.{numbers, firstZeros};
 ghost use Rattle.rules.specs.State.{mem};
 ghost use Rattle.rules.specs.Get.{got};
 ghost use Rattle.rules.specs.Queries.{statistics};
-ghost use Rattle.bitfield_rules.specs.Calls as spec;
-ghost use Rattle.rules.specs.Calls as calls;
+ghost use Rattle.bitfield_rules.specs.Calls.{placed, zeroCount};
+ghost use Rattle.bitfield_rules.specs.Contracts.{Sets, Fills, Toggles, CountsZeros, FindsZeros, SetsFirstZeros};
+ghost use Rattle.rules.specs.Contracts.{Gets, GetsAt, Puts, TellsStats, TellsStatsAt, FindsFault, TellsRoom, FreesAll, ReservesAll, Recovers};
 ghost use Rattle.rules.specs.Audit.{fault};
 ghost use Rattle.rules.specs.Recover.{recovered};
-ghost use Rattle.ravelbeam.specs.Flag.{isYes, flagged};
-ghost use Rattle.ravelbeam.specs.Run.{run, treeRun};
+ghost use Rattle.ravelbeam.specs.Flag.{isYes};
+ghost use Rattle.ravelbeam.specs.Contracts.{FindsNumbers, FlagsZero, FlagsFree, PlacesRun};
 use row::Found;
 
 // The lowest clear block of a row, and the row with the block set.
@@ -23,7 +21,7 @@ pub extern "C" fn rb_first_zeros_aligned(
     place: &mut usize,
     row: &mut u64,
 ) -> u32
-    ensures { λ r. ⌜ numbers r (now (place .exit)) (now (row .exit)) ≡ firstZeros v order ⌝ }
+    ensures { λ r. ⌜ FindsNumbers v order r (now (place .exit)) (now (row .exit)) ⌝ }
 {
     let found = row::first_zeros_aligned(v, order);
     match found {
@@ -48,7 +46,7 @@ pub extern "C" fn rb_first_zeros_aligned(
 // Overwrites the bits from start up to end.
 #[no_mangle]
 pub extern "C" fn rb_bitfield_set(rows: &mut [u64], start: usize, end: usize, value: u32) -> u32
-    ensures { λ r. ⌜ out r (now (rows .exit)) ≡ spec.set hugeOrder (now (rows .entry)) start end (isYes value) ⌝ }
+    ensures { λ r. ⌜ Sets hugeOrder (now (rows .entry)) start end (isYes value) r (now (rows .exit)) ⌝ }
 {
     bitfield::set(rows, start, end, value != 0)
 }
@@ -61,7 +59,7 @@ pub extern "C" fn rb_bitfield_toggle(
     order: usize,
     expected: u32,
 ) -> u32
-    ensures { λ r. ⌜ out r (now (rows .exit)) ≡ spec.toggle hugeOrder (now (rows .entry)) place order (isYes expected) ⌝ }
+    ensures { λ r. ⌜ Toggles hugeOrder (now (rows .entry)) place order (isYes expected) r (now (rows .exit)) ⌝ }
 {
     bitfield::toggle(rows, place, order, expected != 0)
 }
@@ -74,7 +72,7 @@ pub extern "C" fn rb_bitfield_is_zero(
     order: usize,
     yes: &mut u32,
 ) -> u32
-    ensures { λ r. ⌜ out r (now (yes .exit)) ≡ flagged (spec.isZero hugeOrder (now (rows .entry)) place order) ⌝ }
+    ensures { λ r. ⌜ FlagsZero hugeOrder (now (rows .entry)) place order r (now (yes .exit)) ⌝ }
 {
     let answer = bitfield::is_zero(rows, place, order);
     *yes = answer.yes as u32;
@@ -89,7 +87,7 @@ pub extern "C" fn rb_bitfield_first_zeros(
     order: usize,
     place: &mut usize,
 ) -> u32
-    ensures { λ r. ⌜ spec.placed r (now (place .exit)) ≡ spec.firstZeros hugeOrder (now (rows .entry)) «start_row» order ⌝ }
+    ensures { λ r. ⌜ FindsZeros hugeOrder (now (rows .entry)) «start_row» order (placed r (now (place .exit))) ⌝ }
 {
     let found = bitfield::first_zeros(rows, start_row, order);
     *place = found.place;
@@ -104,7 +102,7 @@ pub extern "C" fn rb_bitfield_set_first_zeros(
     order: usize,
     place: &mut usize,
 ) -> u32
-    ensures { λ r. ⌜ out (spec.placed r (now (place .exit))) (now (rows .exit)) ≡ spec.setFirstZeros hugeOrder (now (rows .entry)) «start_row» order ⌝ }
+    ensures { λ r. ⌜ SetsFirstZeros hugeOrder (now (rows .entry)) «start_row» order (placed r (now (place .exit))) (now (rows .exit)) ⌝ }
 {
     let found = bitfield::set_first_zeros(rows, start_row, order);
     *place = found.place;
@@ -114,7 +112,7 @@ pub extern "C" fn rb_bitfield_set_first_zeros(
 // Overwrites every bit.
 #[no_mangle]
 pub extern "C" fn rb_bitfield_fill(rows: &mut [u64], value: u32) -> u32
-    ensures { λ r. ⌜ out r (now (rows .exit)) ≡ spec.fill hugeOrder (now (rows .entry)) (isYes value) ⌝ }
+    ensures { λ r. ⌜ Fills hugeOrder (now (rows .entry)) (isYes value) r (now (rows .exit)) ⌝ }
 {
     bitfield::fill(rows, value != 0)
 }
@@ -122,7 +120,7 @@ pub extern "C" fn rb_bitfield_fill(rows: &mut [u64], value: u32) -> u32
 // The number of clear bits.
 #[no_mangle]
 pub extern "C" fn rb_bitfield_count_zeros(rows: &[u64], zeros: &mut usize) -> u32
-    ensures { λ r. ⌜ spec.counted r (now (zeros .exit)) ≡ spec.countZeros hugeOrder (now (rows .entry)) ⌝ }
+    ensures { λ r. ⌜ CountsZeros hugeOrder (now (rows .entry)) (zeroCount r (now (zeros .exit))) ⌝ }
 {
     let counted = bitfield::count_zeros(rows);
     *zeros = counted.zeros;
@@ -132,7 +130,7 @@ pub extern "C" fn rb_bitfield_count_zeros(rows: &[u64], zeros: &mut usize) -> u3
 // Starts with all frames below N free.
 #[no_mangle]
 pub extern "C" fn rb_free_all(n: usize, t: usize, rows: &mut [u64], entries: &mut [u16]) -> u32
-    ensures { λ r. ⌜ out r (mem (now (rows .exit)) (now (entries .exit))) ≡ calls.freeAll hugeOrder n t (mem (now (rows .entry)) (now (entries .entry))) ⌝ }
+    ensures { λ r. ⌜ FreesAll hugeOrder n t (mem (now (rows .entry)) (now (entries .entry))) r (mem (now (rows .exit)) (now (entries .exit))) ⌝ }
 {
     lower::free_all(n, t, rows, entries)
 }
@@ -140,7 +138,7 @@ pub extern "C" fn rb_free_all(n: usize, t: usize, rows: &mut [u64], entries: &mu
 // Starts with all frames below N held.
 #[no_mangle]
 pub extern "C" fn rb_reserve_all(n: usize, t: usize, rows: &mut [u64], entries: &mut [u16]) -> u32
-    ensures { λ r. ⌜ out r (mem (now (rows .exit)) (now (entries .exit))) ≡ calls.reserveAll hugeOrder n t (mem (now (rows .entry)) (now (entries .entry))) ⌝ }
+    ensures { λ r. ⌜ ReservesAll hugeOrder n t (mem (now (rows .entry)) (now (entries .entry))) r (mem (now (rows .exit)) (now (entries .exit))) ⌝ }
 {
     lower::reserve_all(n, t, rows, entries)
 }
@@ -157,7 +155,7 @@ pub extern "C" fn rb_get(
     frame: &mut usize,
     probes: &mut usize,
 ) -> u32
-    ensures { λ r. ⌜ out (got r (now (frame .exit)) (now (probes .exit))) (mem (now (rows .exit)) (now (entries .exit))) ≡ calls.get hugeOrder n t (mem (now (rows .entry)) (now (entries .entry))) row order ⌝ }
+    ensures { λ r. ⌜ Gets hugeOrder n t (mem (now (rows .entry)) (now (entries .entry))) row order (got r (now (frame .exit)) (now (probes .exit))) (mem (now (rows .exit)) (now (entries .exit))) ⌝ }
 {
     let taken = lower::get(n, t, rows, entries, row, order);
     *frame = taken.frame;
@@ -177,7 +175,7 @@ pub extern "C" fn rb_get_at(
     taken: &mut usize,
     probes: &mut usize,
 ) -> u32
-    ensures { λ r. ⌜ out (got r (now (taken .exit)) (now (probes .exit))) (mem (now (rows .exit)) (now (entries .exit))) ≡ calls.getAt hugeOrder n t (mem (now (rows .entry)) (now (entries .entry))) frame order ⌝ }
+    ensures { λ r. ⌜ GetsAt hugeOrder n t (mem (now (rows .entry)) (now (entries .entry))) frame order (got r (now (taken .exit)) (now (probes .exit))) (mem (now (rows .exit)) (now (entries .exit))) ⌝ }
 {
     let answer = lower::get_at(n, t, rows, entries, frame, order);
     *taken = answer.frame;
@@ -195,7 +193,7 @@ pub extern "C" fn rb_put(
     frame: usize,
     order: usize,
 ) -> u32
-    ensures { λ r. ⌜ out r (mem (now (rows .exit)) (now (entries .exit))) ≡ calls.put hugeOrder n t (mem (now (rows .entry)) (now (entries .entry))) frame order ⌝ }
+    ensures { λ r. ⌜ Puts hugeOrder n t (mem (now (rows .entry)) (now (entries .entry))) frame order r (mem (now (rows .exit)) (now (entries .exit))) ⌝ }
 {
     lower::put(n, t, rows, entries, frame, order)
 }
@@ -211,7 +209,7 @@ pub extern "C" fn rb_is_free(
     order: usize,
     yes: &mut u32,
 ) -> u32
-    ensures { λ r. ⌜ out r (now (yes .exit)) ≡ flagged (calls.isFree hugeOrder n t (mem (now (rows .entry)) (now (entries .entry))) frame order) ⌝ }
+    ensures { λ r. ⌜ FlagsFree hugeOrder n t (mem (now (rows .entry)) (now (entries .entry))) frame order r (now (yes .exit)) ⌝ }
 {
     let answer = lower::is_free(n, t, rows, entries, frame, order);
     *yes = answer.yes as u32;
@@ -229,7 +227,7 @@ pub extern "C" fn rb_stats(
     free_huge: &mut usize,
     free_trees: &mut usize,
 ) -> u32
-    ensures { λ r. ⌜ statistics r (now («free_frames» .exit)) (now («free_huge» .exit)) (now («free_trees» .exit)) ≡ calls.stats hugeOrder n t (mem (now (rows .entry)) (now (entries .entry))) ⌝ }
+    ensures { λ r. ⌜ TellsStats hugeOrder n t (mem (now (rows .entry)) (now (entries .entry))) (statistics r (now («free_frames» .exit)) (now («free_huge» .exit)) (now («free_trees» .exit))) ⌝ }
 {
     let stats = lower::stats(n, t, rows, entries);
     *free_frames = stats.free_frames;
@@ -251,7 +249,7 @@ pub extern "C" fn rb_stats_at(
     free_huge: &mut usize,
     free_trees: &mut usize,
 ) -> u32
-    ensures { λ r. ⌜ statistics r (now («free_frames» .exit)) (now («free_huge» .exit)) (now («free_trees» .exit)) ≡ calls.statsAt hugeOrder n t (mem (now (rows .entry)) (now (entries .entry))) frame order ⌝ }
+    ensures { λ r. ⌜ TellsStatsAt hugeOrder n t (mem (now (rows .entry)) (now (entries .entry))) frame order (statistics r (now («free_frames» .exit)) (now («free_huge» .exit)) (now («free_trees» .exit))) ⌝ }
 {
     let stats = lower::stats_at(n, t, rows, entries, frame, order);
     *free_frames = stats.free_frames;
@@ -270,7 +268,7 @@ pub extern "C" fn rb_audit(
     huge: &mut usize,
     reason: &mut u32,
 ) -> u32
-    ensures { λ r. ⌜ fault r (now (huge .exit)) (now (reason .exit)) ≡ calls.audit hugeOrder n t (mem (now (rows .entry)) (now (entries .entry))) ⌝ }
+    ensures { λ r. ⌜ FindsFault hugeOrder n t (mem (now (rows .entry)) (now (entries .entry))) (fault r (now (huge .exit)) (now (reason .exit))) ⌝ }
 {
     let fault = staff::audit(n, t, rows, entries);
     *huge = fault.huge;
@@ -288,7 +286,7 @@ pub extern "C" fn rb_recover(
     entries_changed: &mut usize,
     bitfields_changed: &mut usize,
 ) -> u32
-    ensures { λ r. ⌜ out (recovered r (now («entries_changed» .exit)) (now («bitfields_changed» .exit))) (mem (now (rows .exit)) (now (entries .exit))) ≡ calls.recover hugeOrder n t (mem (now (rows .entry)) (now (entries .entry))) ⌝ }
+    ensures { λ r. ⌜ Recovers hugeOrder n t (mem (now (rows .entry)) (now (entries .entry))) (recovered r (now («entries_changed» .exit)) (now («bitfields_changed» .exit))) (mem (now (rows .exit)) (now (entries .exit))) ⌝ }
 {
     let recovered = staff::recover(n, t, rows, entries);
     *entries_changed = recovered.entries;
@@ -306,7 +304,7 @@ pub extern "C" fn rb_room(
     frame: usize,
     counts: &mut [usize; 19],
 ) -> u32
-    ensures { λ r. ⌜ out r (now (counts .exit)) ≡ calls.room hugeOrder n t (mem (now (rows .entry)) (now (entries .entry))) frame ⌝ }
+    ensures { λ r. ⌜ TellsRoom hugeOrder n t (mem (now (rows .entry)) (now (entries .entry))) frame r (now (counts .exit)) ⌝ }
 {
     let room = staff::room(n, t, rows, entries, frame);
     let filled = room.counts;
@@ -325,15 +323,15 @@ pub extern "C" fn rb_tree_run(
     offset: &mut usize,
     length: &mut usize,
 ) -> u32
-    ensures { λ r. ⌜ run r (now (offset .exit)) (now (length .exit)) ≡ treeRun hugeOrder n t (mem (now (rows .entry)) (now (entries .entry))) frame ⌝ }
+    ensures { λ r. ⌜ PlacesRun hugeOrder n t (mem (now (rows .entry)) (now (entries .entry))) frame r (now (offset .exit)) (now (length .exit)) ⌝ }
 {
     let code = staff::tree_run_code(n, t, rows, entries, frame);
+    let run = staff::tree_run(n, t, rows, entries, frame);
+    *length = run.len();
     if code != 0 {
         *offset = 0;
-        *length = 0;
         return code;
     }
     *offset = shape::tree_first(base::HUGE_ORDER, t, frame);
-    *length = t;
     0
 }

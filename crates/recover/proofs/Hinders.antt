@@ -8,7 +8,6 @@ use native.Mathlib.Nat.{zero-add}
 use native.Mathlib.Decide.{ℕ-discrete, decLt}
 use native.Mathlib.Omega.{arith}
 use lib.Dec.{eqb, lit<}
-use lib.ListN.{length}
 use borrow.Author.Tests.{ne-eqb}
 use Rattle.base.specs.Walk.{pick, all}
 use Rattle.base.specs.Code.{unless}
@@ -16,7 +15,7 @@ use Rattle.base.specs.Bits.{blockIs}
 use Rattle.base.proofs.Walks.{all-of, all-not, all-same, all-parts}
 use Rattle.rules.specs.Numbers.{mark, hugeOf, whole, entriesNeeded}
 use Rattle.rules.specs.Refusals.{Sized}
-use Rattle.rules.specs.State.{Mem, mem, entryOf, clearOf, entriesAre}
+use Rattle.rules.specs.State.{Mem, mem, entryOf, clearOf, entriesAre, lengthsOf}
 use Rattle.rules.proofs.Present.{last-present, last-needed, before-whole, behind-absent}
 use Rattle.rules.specs.Audit.{reason}
 use Rattle.rules.proofs.Reasons.{reason-absent, reason-marked, reason-counted, reason-whole}
@@ -53,7 +52,7 @@ module _ (h n : ℕ) (m : Mem) (x : ℕ) where
 
 -- ---- the test of all huge frames
 
-module _ {h n t : ℕ} (rs es : List ℕ) (s : Sized h n t (length rs) (length es)) {last r : ℕ} (last-is : last ≡ hugeOf h (n - 1))
+module _ {h n t : ℕ} (rs es : List ℕ) (s : Sized h n t (lengthsOf (mem rs es))) {last r : ℕ} (last-is : last ≡ hugeOf h (n - 1))
     (r-is : r ≡ reason h n (mem rs es) last) where
   -- a reason of the last present one that hinders is enough
   pub blocked-last : blocksRecovery r ≡ true → true ≡ not (recoverable h n t (mem rs es))

@@ -12,7 +12,7 @@ use lib.Seq.{set-getD}
 use borrow.Author.Tests.{eq-eqb, ne-eqb, eqb-true, eqb-false}
 use Rattle.base.specs.Walk.{pick, all, written}
 use Rattle.base.specs.Code.{out}
-use Rattle.base.specs.Size.{Huge, rowsOf}
+use Rattle.base.specs.Size.{Huge, rowsPer}
 use Rattle.base.specs.Bits.{bitIs, blockIs}
 use Rattle.base.proofs.Walks.{all-each, all-of, all-same, all-shift, count-le}
 use Rattle.base.proofs.Written.{written-same, written-stays, solid-part}
@@ -31,10 +31,10 @@ use Rattle.recover.specs.Mend.{entryDiffers, rowsDiffer, mendedAt}
 module _ (h x : ℕ) where
   -- row i is one of them
   abbrev pub Its : ℕ → Type 0
-  Its i = (x * rowsOf h ≤ i) × (i < x * rowsOf h + rowsOf h)
+  Its i = (x * rowsPer h ≤ i) × (i < x * rowsPer h + rowsPer h)
 
-  pub its-huge : (i : ℕ) → Its i → i / rowsOf h ≡ x
-  its-huge i w = quotient-is (rowsOf h) x i (w .0) (w .1)
+  pub its-huge : (i : ℕ) → Its i → i / rowsPer h ≡ x
+  its-huge i w = quotient-is (rowsPer h) x i (w .0) (w .1)
 
   module _ (rs es : List ℕ) where
     -- under a mark they are cleared
@@ -51,11 +51,11 @@ zeros-fit {h} H rs x e = omega (arith, count-le (bitIs false rs) (2 ^ h) (x * 2 
 
 -- all bits are clear exactly if each row is 0
 module _ {h : ℕ} (H : Huge h) (rs : List ℕ) (x : ℕ) (fits : (j : ℕ) → getD rs j 0 < 2 ^ 64) where
-  pub rows-clear : all (λ i. eqb (getD rs i 0) 0) (rowsOf h) (x * rowsOf h) ≡ eqb (clearOf h rs x) (2 ^ h)
+  pub rows-clear : all (λ i. eqb (getD rs i 0) 0) (rowsPer h) (x * rowsPer h) ≡ eqb (clearOf h rs x) (2 ^ h)
   rows-clear =
-      ap (all (λ i. eqb (getD rs i 0) 0) (rowsOf h)) (sym (add-zero (x * rowsOf h)))
-      ∙ sym (all-shift (λ i. eqb (getD rs i 0) 0) (x * rowsOf h) (rowsOf h) 0)
-      ∙ sym (block-rows false rs fits (x * rowsOf h) (rowsOf h)) ∙ ap₂ (blockIs false rs) (first-row H x) (sym (rows-frames H)) ∙ counted (eqb (clearOf h rs x) (2 ^ h)) refl
+      ap (all (λ i. eqb (getD rs i 0) 0) (rowsPer h)) (sym (add-zero (x * rowsPer h)))
+      ∙ sym (all-shift (λ i. eqb (getD rs i 0) 0) (x * rowsPer h) (rowsPer h) 0)
+      ∙ sym (block-rows false rs fits (x * rowsPer h) (rowsPer h)) ∙ ap₂ (blockIs false rs) (first-row H x) (sym (rows-frames H)) ∙ counted (eqb (clearOf h rs x) (2 ^ h)) refl
     where
       counted : (b : Bool) → eqb (clearOf h rs x) (2 ^ h) ≡ b → blockIs false rs (x * 2 ^ h) (2 ^ h) ≡ b
       counted true e = all-are-clear h rs x (eqb-true _ _ e)
@@ -66,7 +66,7 @@ module _ {h : ℕ} (H : Huge h) (rs : List ℕ) (x : ℕ) (fits : (j : ℕ) → 
 module _ (h : ℕ) (rs es : List ℕ) (x : ℕ) where
   -- from what becomes of the entry and of the rows
   answer : {rs′ es′ : List ℕ} (e b : Bool) → entryDiffers h (mem rs es) x ≡ e → rowsDiffer h (mem rs es) x ≡ b
-      → rs′ ≡ written (rowAfter h (mem rs es)) rs (x * rowsOf h) (rowsOf h) → es′ ≡ set es x (entryAfter h (mem rs es) x)
+      → rs′ ≡ written (rowAfter h (mem rs es)) rs (x * rowsPer h) (rowsPer h) → es′ ≡ set es x (entryAfter h (mem rs es) x)
       → out (recovered 0 (pick e 1 0) (pick b 1 0)) (mem rs′ es′) ≡ mendedAt h (mem rs es) x
   unfolding mendedAt
   answer e b p q r s = rw (p, q, r, s)
@@ -91,7 +91,7 @@ module _ {h : ℕ} (H : Huge h) (rs es : List ℕ) (x : ℕ) (fits : (j : ℕ) �
     rows-differ : rowsDiffer h (mem rs es) x ≡ not (eqb zeros (2 ^ h))
     unfolding rowsDiffer
     rows-differ =
-        ap not (all-same _ (λ i. eqb (getD rs i 0) 0) (rowsOf h) (x * rowsOf h) (λ i a b. ap (eqb (getD rs i 0)) (row-marked h x rs es marked i (a, b)))
+        ap not (all-same _ (λ i. eqb (getD rs i 0) 0) (rowsPer h) (x * rowsPer h) (λ i a b. ap (eqb (getD rs i 0)) (row-marked h x rs es marked i (a, b)))
         ∙ rows-clear H rs x fits)
         ∙ rw zeros-are
 
@@ -100,17 +100,17 @@ module _ {h : ℕ} (H : Huge h) (rs es : List ℕ) (x : ℕ) (fits : (j : ℕ) �
         answer h rs es x false false (same-entry h rs es x mark-after) (rows-differ ∙ ap not (eq-eqb zeros (2 ^ h) e)) (sym (written-stays _ rs _ _ zero))
         (kept-entry h rs es x mark-after)
       where
-        zero : (i : ℕ) → x * rowsOf h ≤ i → i < x * rowsOf h + rowsOf h → rowAfter h (mem rs es) i ≡ getD rs i 0
+        zero : (i : ℕ) → x * rowsPer h ≤ i → i < x * rowsPer h + rowsPer h → rowAfter h (mem rs es) i ≡ getD rs i 0
         zero i a b =
             row-marked h x rs es marked i (a, b)
-            ∙ sym (eqb-true _ _ (all-each (λ j. eqb (getD rs j 0) 0) (rowsOf h) (x * rowsOf h) (rows-clear H rs x fits ∙ eq-eqb _ _ (sym zeros-are ∙ e)) i a b))
+            ∙ sym (eqb-true _ _ (all-each (λ j. eqb (getD rs j 0) 0) (rowsPer h) (x * rowsPer h) (rows-clear H rs x fits ∙ eq-eqb _ _ (sym zeros-are ∙ e)) i a b))
 
     -- k rows from row a on are lent, and come back as ys
-    mark-cleared : (zeros ≡ 2 ^ h → ⊥) → (x + 1) * rowsOf h ≤ length rs → {a k : ℕ} {ys : List ℕ} → a ≡ x * rowsOf h → k ≡ rowsOf h
+    mark-cleared : (zeros ≡ 2 ^ h → ⊥) → (x + 1) * rowsPer h ≤ length rs → {a k : ℕ} {ys : List ℕ} → a ≡ x * rowsPer h → k ≡ rowsPer h
         → ys ≡ replicate (length (take k (drop a rs))) 0 → out (recovered 0 0 1) (mem (take a rs ++ (ys ++ drop k (drop a rs))) es) ≡ mendedAt h (mem rs es) x
     mark-cleared n lent {a} {k} {ys} ea ek q =
         answer h rs es x false true (same-entry h rs es x mark-after) (rows-differ ∙ ap not (ne-eqb zeros (2 ^ h) n))
-        (rw (q, long, ea, ek) (solid-part rs 0 (x * rowsOf h) (rowsOf h) (omega arith) ∙ written-same _ _ rs _ _ (λ i lo hi. sym (row-marked h x rs es marked i (lo, hi)))))
+        (rw (q, long, ea, ek) (solid-part rs 0 (x * rowsPer h) (rowsPer h) (omega arith) ∙ written-same _ _ rs _ _ (λ i lo hi. sym (row-marked h x rs es marked i (lo, hi)))))
         (kept-entry h rs es x mark-after)
       where
         long : length (take k (drop a rs)) ≡ k
@@ -125,9 +125,9 @@ module _ {h : ℕ} (H : Huge h) (rs es : List ℕ) (x : ℕ) (fits : (j : ℕ) �
     -- and the rows stay
     same-rows : rowsDiffer h (mem rs es) x ≡ false
     unfolding rowsDiffer
-    same-rows = ap not (all-of _ (rowsOf h) (x * rowsOf h) (λ i a b. eq-eqb _ _ (sym (row-counted h x rs es counted i (a, b)))))
+    same-rows = ap not (all-of _ (rowsPer h) (x * rowsPer h) (λ i a b. eq-eqb _ _ (sym (row-counted h x rs es counted i (a, b)))))
 
-    kept-rows : rs ≡ written (rowAfter h (mem rs es)) rs (x * rowsOf h) (rowsOf h)
+    kept-rows : rs ≡ written (rowAfter h (mem rs es)) rs (x * rowsPer h) (rowsPer h)
     kept-rows = sym (written-stays _ rs _ _ (λ i a b. row-counted h x rs es counted i (a, b)))
 
     count-right : zeros ≡ entryOf es x → out (recovered 0 0 0) (mem rs es) ≡ mendedAt h (mem rs es) x
@@ -154,7 +154,7 @@ module _ {h : ℕ} (H : Huge h) (rs es : List ℕ) (x : ℕ) (fits : (j : ℕ) �
     ]
 
     -- where they don't, a mark's are cleared: k rows from row a on are lent, and come back as ys
-    pub clears : (zeros ≡ told → ⊥) → entryOf es x ≡ mark → (x + 1) * rowsOf h ≤ length rs → {a k : ℕ} {ys : List ℕ} → a ≡ x * rowsOf h → k ≡ rowsOf h
+    pub clears : (zeros ≡ told → ⊥) → entryOf es x ≡ mark → (x + 1) * rowsPer h ≤ length rs → {a k : ℕ} {ys : List ℕ} → a ≡ x * rowsPer h → k ≡ rowsPer h
         → ys ≡ replicate (length (take k (drop a rs))) 0 → out (recovered 0 0 1) (mem (take a rs ++ (ys ++ drop k (drop a rs))) es) ≡ mendedAt h (mem rs es) x
     clears n marked = mark-cleared marked (λ e. n (e ∙ sym (told-marked marked)))
 

@@ -3,85 +3,38 @@ use mathlib.Core.Path.{_≡_, refl, sym, ap, ap₂, _∙_}
 use mathlib.Core.Bool.{Bool, true, false, not}
 use mathlib.Core.List.{List}
 use Prim.Native.Nat.{ℕ, _+_, _-_, _*_, _/_, _^_, _≤_, _<_}
-use native.Mathlib.Nat.{zero-add, mul-comm, mul-le-mul-right, le-div-iff-mul-le}
+use native.Mathlib.Nat.{zero-add, mul-comm, mul-le-mul-right}
 use native.Mathlib.Omega.{arith}
 use lib.Dec.{eqb}
-use lib.Pow.{pow-pos}
 use lib.ListN.{length, getD}
-use borrow.Author.Tests.{eq-eqb, not-true, not-false}
-use Rattle.base.specs.Walk.{pick, all, count, written}
+use borrow.Author.Tests.{not-true, not-false}
+use Rattle.base.specs.Walk.{pick, count, written}
 use Rattle.base.specs.Code.{Out, out}
-use Rattle.base.specs.Size.{Huge, rowsOf}
+use Rattle.base.specs.Size.{Huge, rowsPer}
 use Rattle.base.specs.Bits.{bitIs}
-use Rattle.base.proofs.Walks.{all-of, all-same, count-le, count-same, count-none, count-parts, count-more}
-use Rattle.base.proofs.Written.{written-more, written-same, written-in, written-beyond, length-written, written-parts}
+use Rattle.base.proofs.Walks.{all-same, count-le, count-same, count-more}
+use Rattle.base.proofs.Written.{written-more, written-same, written-beyond, length-written, written-parts}
 use Rattle.base.proofs.Sizes.{rows-frames}
 use Rattle.base.proofs.Frames.{same-bit}
 use Rattle.rules.specs.Numbers.{hugeOf, ceil, rowsNeeded}
 use Rattle.rules.specs.Refusals.{Sized}
-use Rattle.rules.specs.State.{Mem, mem, entryOf, clearOf}
+use Rattle.rules.specs.State.{Mem, mem, entryOf, clearOf, lengthsOf}
 use Rattle.rules.proofs.Present.{present-is, last-present, last-needed}
 use Rattle.rules.proofs.Lent.{present-rows}
+use Rattle.rules.proofs.Differs.{entries-differ, bitfields-differ}
 use Rattle.rules.specs.declared.Recovered.{Recovered}
 use Rattle.rules.specs.Recover.{recovered, recoverable, entryAfter, rowAfter, mended, entriesDiffer, bitfieldsDiffer, recoverAll}
 use Rattle.recover.specs.Mend.{entryDiffers, rowsDiffer, mendedAt}
 use Rattle.recover.proofs.Mends.{Its, its-huge}
 
--- ---- those that differ before and after a run is written
-
--- entries: k of them, from the first on
-entries-differ : (f : ℕ → ℕ) (es : List ℕ) (k : ℕ) → k ≤ length es → entriesDiffer es (written f es 0 k) ≡ count (λ x. not (eqb (entryOf es x) (f x))) k 0
-unfolding entriesDiffer
-entries-differ f es k l =
-    let parts : length es ≡ k + (length es - k) = omega arith in
-    ap (λ (n : ℕ). count differs n 0) parts ∙ count-parts differs k (length es - k) 0
-    ∙ omega (
-      arith,
-      count-same differs (λ x. not (eqb (entryOf es x) (f x))) k 0 (λ x _ u. ap (λ (y : ℕ). not (eqb (entryOf es x) y)) (written-in f es 0 k x (omega arith) u (omega arith))),
-      count-none differs (length es - k) (0 + k) (λ x u _. ap not (eq-eqb _ _ (sym (written-beyond f es 0 k x u)))),
-    )
-  where
-    differs : ℕ → Bool
-    differs x = not (eqb (entryOf es x) (entryOf (written f es 0 k) x))
-
--- bitfields: the rows of k huge frames
-bitfields-differ : (h : ℕ) (f : ℕ → ℕ) (rs : List ℕ) (k : ℕ) → k * rowsOf h ≤ length rs
-    → bitfieldsDiffer h rs (written f rs 0 (k * rowsOf h)) ≡ count (λ x. not (all (λ i. eqb (getD rs i 0) (f i)) (rowsOf h) (x * rowsOf h))) k 0
-unfolding bitfieldsDiffer
-bitfields-differ h f rs k l =
-    let most : k ≤ length rs / rowsOf h = le-div-iff-mul-le (pow-pos (h - 6)) .1 l in
-    let parts : length rs / rowsOf h ≡ k + (length rs / rowsOf h - k) = omega arith in
-    ap (λ (n : ℕ). count differs n 0) parts ∙ count-parts differs k (length rs / rowsOf h - k) 0
-    ∙ omega (
-      arith,
-      count-same differs (λ x. not (all (λ i. eqb (getD rs i 0) (f i)) (rowsOf h) (x * rowsOf h))) k 0 (λ x _ u. ap not (inside x (omega arith))),
-      count-none differs (length rs / rowsOf h - k) (0 + k) (λ x u _. ap not (beyond x (omega arith))),
-    )
-  where
-    left : List ℕ
-    left = written f rs 0 (k * rowsOf h)
-
-    differs : ℕ → Bool
-    differs x = not (all (λ i. eqb (getD rs i 0) (getD left i 0)) (rowsOf h) (x * rowsOf h))
-
-    inside : (x : ℕ) → x < k → all (λ i. eqb (getD rs i 0) (getD left i 0)) (rowsOf h) (x * rowsOf h) ≡ all (λ i. eqb (getD rs i 0) (f i)) (rowsOf h) (x * rowsOf h)
-    inside x u =
-        let ends : (x + 1) * rowsOf h ≤ k * rowsOf h = mul-le-mul-right (rowsOf h) (omega arith) in
-        all-same _ _ (rowsOf h) (x * rowsOf h) (λ i a b. ap (eqb (getD rs i 0)) (written-in f rs 0 (k * rowsOf h) i (omega arith) (omega arith) (omega arith)))
-
-    beyond : (x : ℕ) → k ≤ x → all (λ i. eqb (getD rs i 0) (getD left i 0)) (rowsOf h) (x * rowsOf h) ≡ true
-    beyond x u =
-        let starts : k * rowsOf h ≤ x * rowsOf h = mul-le-mul-right (rowsOf h) u in
-        all-of _ (rowsOf h) (x * rowsOf h) (λ i a b. eq-eqb _ _ (sym (written-beyond f rs 0 (k * rowsOf h) i (omega arith))))
-
 -- ---- two memories that agree on huge frame x give it the same share
 
 module _ {h : ℕ} (H : Huge h) (x : ℕ) (m m′ : Mem) (entry : entryOf (m′ .entries) x ≡ entryOf (m .entries) x)
-    (rows : (i : ℕ) → x * rowsOf h ≤ i → getD (m′ .rows) i 0 ≡ getD (m .rows) i 0) where
+    (rows : (i : ℕ) → x * rowsPer h ≤ i → getD (m′ .rows) i 0 ≡ getD (m .rows) i 0) where
   same-clear : clearOf h (m′ .rows) x ≡ clearOf h (m .rows) x
   same-clear = count-same (bitIs false (m′ .rows)) (bitIs false (m .rows)) (2 ^ h) (x * 2 ^ h) (λ f a _. bit f (rw (rows-frames H) at a))
     where
-      bit : (f : ℕ) → x * (rowsOf h * 64) ≤ f → bitIs false (m′ .rows) f ≡ bitIs false (m .rows) f
+      bit : (f : ℕ) → x * (rowsPer h * 64) ≤ f → bitIs false (m′ .rows) f ≡ bitIs false (m .rows) f
       bit f a = same-bit false (m′ .rows) (m .rows) f (rows (f / 64) (omega arith))
 
   same-entry : entryAfter h m′ x ≡ entryAfter h m x
@@ -96,7 +49,7 @@ module _ {h : ℕ} (H : Huge h) (x : ℕ) (m m′ : Mem) (entry : entryOf (m′ 
 
   same-rows-differ : rowsDiffer h m′ x ≡ rowsDiffer h m x
   unfolding rowsDiffer
-  same-rows-differ = ap not (all-same _ _ (rowsOf h) (x * rowsOf h) (λ i a b. ap₂ eqb (rows i a) (same-row i (a, b))))
+  same-rows-differ = ap not (all-same _ _ (rowsPer h) (x * rowsPer h) (λ i a b. ap₂ eqb (rows i a) (same-row i (a, b))))
 
 -- ---- the loop
 
@@ -105,7 +58,7 @@ pub record MendAt (h : ℕ) (m : Mem) (k : ℕ) (rs es : List ℕ) (e b x : ℕ)
   pub inside : x ≤ k
   pub rows-long : length rs ≡ length (m .rows)
   pub entries-long : length es ≡ length (m .entries)
-  pub rows : rs ≡ written (rowAfter h m) (m .rows) 0 (x * rowsOf h)
+  pub rows : rs ≡ written (rowAfter h m) (m .rows) 0 (x * rowsPer h)
   pub entries : es ≡ written (entryAfter h m) (m .entries) 0 x
   pub changed : e ≡ count (entryDiffers h m) x 0
   pub cleared : b ≡ count (rowsDiffer h m) x 0
@@ -114,7 +67,7 @@ module _ {h : ℕ} (m : Mem) {k : ℕ} where
   -- before the first huge frame nothing is
   pub mend-start : MendAt h m k (m .rows) (m .entries) 0 0 0
   unfolding written count
-  mend-start = record { inside = omega arith; rows-long = refl; entries-long = refl; rows = none (0 * rowsOf h) (omega arith); entries = refl; changed = refl; cleared = refl }
+  mend-start = record { inside = omega arith; rows-long = refl; entries-long = refl; rows = none (0 * rowsPer h) (omega arith); entries = refl; changed = refl; cleared = refl }
     where
       none : (z : ℕ) → z ≡ 0 → m .rows ≡ written (rowAfter h m) (m .rows) 0 z
       none z e = rw e
@@ -130,19 +83,19 @@ module _ {h : ℕ} (m : Mem) {k : ℕ} where
     unfolding mendedAt
     mend-more H {r} {rs′} {es′} l q =
         let entry : entryOf es x ≡ entryOf (m .entries) x = rw (at .entries) (written-beyond (entryAfter h m) (m .entries) 0 x x (omega arith)) in
-        let row : (i : ℕ) → x * rowsOf h ≤ i → getD rs i 0 ≡ getD (m .rows) i 0 =
-        λ i a. rw (at .rows) (written-beyond (rowAfter h m) (m .rows) 0 (x * rowsOf h) i (omega arith)) in
-        let more : (x + 1) * rowsOf h ≡ x * rowsOf h + rowsOf h = omega arith in
-        let rows-left : rs′ ≡ written (rowAfter h m) (m .rows) 0 ((x + 1) * rowsOf h) =
+        let row : (i : ℕ) → x * rowsPer h ≤ i → getD rs i 0 ≡ getD (m .rows) i 0 =
+        λ i a. rw (at .rows) (written-beyond (rowAfter h m) (m .rows) 0 (x * rowsPer h) i (omega arith)) in
+        let more : (x + 1) * rowsPer h ≡ x * rowsPer h + rowsPer h = omega arith in
+        let rows-left : rs′ ≡ written (rowAfter h m) (m .rows) 0 ((x + 1) * rowsPer h) =
         ap (λ (o : Out Recovered Mem). o .left .rows) q
-        ∙ written-same _ (rowAfter h m) rs (x * rowsOf h) (rowsOf h) (λ i a c. same-row H x m (mem rs es) entry row i (a, c))
-        ∙ rw (at .rows, more) (rw zero-add at (written-parts (rowAfter h m) (m .rows) 0 (x * rowsOf h) (rowsOf h))) in
+        ∙ written-same _ (rowAfter h m) rs (x * rowsPer h) (rowsPer h) (λ i a c. same-row H x m (mem rs es) entry row i (a, c))
+        ∙ rw (at .rows, more) (rw zero-add at (written-parts (rowAfter h m) (m .rows) 0 (x * rowsPer h) (rowsPer h))) in
         let entries-left : es′ ≡ written (entryAfter h m) (m .entries) 0 (x + 1) =
         ap (λ (o : Out Recovered Mem). o .left .entries) q
         ∙ rw (same-entry H x m (mem rs es) entry row, at .entries) (rw zero-add at (written-more (entryAfter h m) (m .entries) 0 x)) in
         record {
           inside = omega arith;
-          rows-long = ap length rows-left ∙ length-written (rowAfter h m) (m .rows) 0 ((x + 1) * rowsOf h);
+          rows-long = ap length rows-left ∙ length-written (rowAfter h m) (m .rows) 0 ((x + 1) * rowsPer h);
           entries-long = ap length entries-left ∙ length-written (entryAfter h m) (m .entries) 0 (x + 1);
           rows = rows-left;
           entries = entries-left;
@@ -156,10 +109,10 @@ module _ {h : ℕ} (m : Mem) {k : ℕ} where
 
 -- ---- the call
 
-module _ {h n t : ℕ} (H : Huge h) (rs es : List ℕ) (s : Sized h n t (length rs) (length es)) {last : ℕ} (last-is : last ≡ hugeOf h (n - 1)) where
+module _ {h n t : ℕ} (H : Huge h) (rs es : List ℕ) (s : Sized h n t (lengthsOf (mem rs es))) {last : ℕ} (last-is : last ≡ hugeOf h (n - 1)) where
   -- the entry and the rows of each are lent
   pub mend-asked : {rs′ es′ : List ℕ} {e b x : ℕ} → MendAt h (mem rs es) (last + 1) rs′ es′ e b x → x < last + 1
-      → (Huge h) × (x < length es′) × ((x + 1) * rowsOf h ≤ length rs′)
+      → (Huge h) × (x < length es′) × ((x + 1) * rowsPer h ≤ length rs′)
   mend-asked {x = x} at l =
       let below : x * 2 ^ h ≤ last * 2 ^ h = mul-le-mul-right (2 ^ h) (omega arith) in
       (H, rw (at .entries-long) (omega (arith, s .entries, last-needed s last-is)), rw (at .rows-long) (present-rows H s x (omega (arith, last-present s last-is))))
@@ -170,7 +123,7 @@ module _ {h n t : ℕ} (H : Huge h) (rs es : List ℕ) (s : Sized h n t (length 
   unfolding recoverAll mended entryDiffers rowsDiffer
   recovers q going {rs′} {es′} {e} {b} {x} at l =
       let all-present : x ≡ ceil n (2 ^ h) = omega (arith, at .inside, present-is s last-is) in
-      let needed : x * rowsOf h ≡ rowsNeeded h n = rw all-present (mul-comm (ceil n (2 ^ h)) (rowsOf h)) in
+      let needed : x * rowsPer h ≡ rowsNeeded h n = rw all-present (mul-comm (ceil n (2 ^ h)) (rowsPer h)) in
       let rows-left : rs′ ≡ written (rowAfter h (mem rs es)) rs 0 (rowsNeeded h n) = at .rows ∙ ap (written (rowAfter h (mem rs es)) rs 0) needed in
       let entries-left : es′ ≡ written (entryAfter h (mem rs es)) es 0 (ceil n (2 ^ h)) = at .entries ∙ ap (written (entryAfter h (mem rs es)) es 0) all-present in
       let lent : x ≤ length es = omega (arith, s .entries, last-needed s last-is, at .inside) in

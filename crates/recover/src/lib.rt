@@ -6,10 +6,10 @@ ghost use lib.Dec.{eqb};
 ghost use lib.ListN.{length};
 ghost use Rattle.base.specs.Walk.{pick};
 ghost use Rattle.base.specs.Code.{out};
-ghost use Rattle.base.specs.Size.{Huge, rowsOf};
+ghost use Rattle.base.specs.Size.{Huge, rowsPer};
 ghost use Rattle.rules.specs.Numbers.{mark};
 ghost use Rattle.rules.specs.Refusals.{Sized};
-ghost use Rattle.rules.specs.State.{mem};
+ghost use Rattle.rules.specs.State.{mem, lengthsOf};
 ghost use Rattle.recover.specs.Mend as mend;
 ghost use Rattle.rules.specs.Recover as spec;
 use rules::Recovered;
@@ -28,11 +28,11 @@ fn expected_zeros(h: usize, entry: u16) -> usize
 // Recovers one huge frame, where its entry and its bits disagree: a mark stays, over cleared bits; a count is replaced. One test
 // decides for both, beside the count itself: so the compiler counts two rows at a time.
 fn mend(h: usize, rows: &mut [u64], entries: &mut [u16], x: usize) -> Recovered
-    requires { ⌜ (Huge h) × (x < length (now entries)) × ((x + 1) * rowsOf h ≤ length (now rows)) ⌝ }
+    requires { ⌜ (Huge h) × (x < length (now entries)) × ((x + 1) * rowsPer h ≤ length (now rows)) ⌝ }
     ensures { λ r. ⌜ out r (mem (now (rows .exit)) (now (entries .exit))) ≡ mend.mendedAt h (mem (now (rows .entry)) (now (entries .entry))) x ⌝ }
 {
     let entry = entries[x];
-    let zeros = audit::zeros(h, rows, x);
+    let zeros = part::zeros(h, rows, x);
     if zeros == expected_zeros(h, entry) {
         return Recovered {
             code: 0,
@@ -60,7 +60,7 @@ fn mend(h: usize, rows: &mut [u64], entries: &mut [u16], x: usize) -> Recovered
 
 // Whether a huge frame has reason 1, 3 or 5. Only the last present one can have 1 or 3, which need frames past N; absent ones have no other than 5.
 fn is_blocked(h: usize, n: usize, t: usize, rows: &[u64], entries: &[u16]) -> bool
-    requires { ⌜ (Huge h) × Sized h n t (length (now rows)) (length (now entries)) ⌝ }
+    requires { ⌜ (Huge h) × Sized h n t (lengthsOf (mem (now rows) (now entries))) ⌝ }
     ensures { λ r. ⌜ r ≡ not (spec.recoverable h n t (mem (now (rows .entry)) (now (entries .entry)))) ⌝ }
 {
     let last = shape::frame_huge(h, n - 1);
@@ -78,7 +78,7 @@ fn is_blocked(h: usize, n: usize, t: usize, rows: &[u64], entries: &[u16]) -> bo
 
 // Recovers every present huge frame, unless one is damaged beyond it.
 pub fn all(h: usize, n: usize, t: usize, rows: &mut [u64], entries: &mut [u16]) -> Recovered
-    requires { ⌜ (Huge h) × Sized h n t (length (now rows)) (length (now entries)) ⌝ }
+    requires { ⌜ (Huge h) × Sized h n t (lengthsOf (mem (now rows) (now entries))) ⌝ }
     ensures { λ r. ⌜ out r (mem (now (rows .exit)) (now (entries .exit))) ≡ spec.recoverAll h n t (mem (now (rows .entry)) (now (entries .entry))) ⌝ }
 {
     if is_blocked(h, n, t, rows, entries) {

@@ -9,10 +9,11 @@ use lib.Dec.{leb, ltb}
 use lib.Pow.{pow-pos}
 use borrow.Author.Tests.{lt-ltb, le-ltb, le-leb, lt-leb, ltb-true, leb-true}
 use Rattle.base.specs.Code.{unless, orElse}
-use Rattle.base.specs.Size.{Huge, rowsOf}
+use Rattle.base.specs.Size.{Huge, rowsPer}
 use Rattle.base.proofs.Codes.{stops, passes, none-of, holds}
 use Rattle.base.proofs.Sizes.{mask-mod}
 use Rattle.rules.specs.Numbers.{hugeOf, ceil, treeLog, isTree, topOrder, aligned, rowsNeeded, entriesNeeded}
+use Rattle.rules.specs.State.{Lengths}
 use Rattle.rules.specs.Refusals.{framesCode, lentCode, sizesCode, orderCode, Sized}
 use Rattle.rules.proofs.Numbers.{tree-pow, tree-pos, huge-by-rows}
 use Rattle.rules.proofs.Lent.{sized}
@@ -43,8 +44,8 @@ frames-some (suc n) e = omega arith
 ceil-last : (n b : ℕ) → 0 < n → 0 < b → ceil n b ≡ (n - 1) / b + 1
 ceil-last n b p q = let e : n + (b - 1) ≡ n - 1 + b = omega arith in rw e (add-div-right (n - 1) q)
 
-module _ (h n t rl el : ℕ) (huge : Huge h) (some : 0 < n) (tree : isTree t ≡ true) {x : ℕ} (x-is : x ≡ hugeOf h (n - 1)) where
-  rows-last : rowsNeeded h n ≡ rowsOf h * (x + 1)
+module _ (h n t : ℕ) (len : Lengths) (huge : Huge h) (some : 0 < n) (tree : isTree t ≡ true) {x : ℕ} (x-is : x ≡ hugeOf h (n - 1)) where
+  rows-last : rowsNeeded h n ≡ rowsPer h * (x + 1)
   rows-last = rw (ceil-last n (2 ^ h) some (pow-pos h), ← x-is)
 
   -- the last of its tree's entries has all the bits below T
@@ -55,26 +56,26 @@ module _ (h n t rl el : ℕ) (huge : Huge h) (some : 0 < n) (tree : isTree t ≡
       let last : (n - 1) / (2 ^ h * t) ≡ x / t = rw x-is (sym (div-div-eq-div-mul (n - 1) (2 ^ h) t)) in
       rw (ceil-last n (2 ^ h * t) some (mul-pos (pow-pos h) p), last) (omega (arith, or-add-and x (t - 1), div-add-mod' x t))
 
-  module _ {r : ℕ} (r-is : r ≡ hugeOf h (rl * 64)) where
+  module _ {r : ℕ} (r-is : r ≡ hugeOf h ((len .rows) * 64)) where
     -- rows too few
-    pub rows-short : r ≤ x → 3 ≡ lentCode h n t rl el
+    pub rows-short : r ≤ x → 3 ≡ lentCode h n t len
     rows-short l =
-        let few : rl < (x + 1) * rowsOf h = div-lt-iff-lt-mul (pow-pos (h - 6)) .0 (rw (← huge-by-rows rl huge, ← r-is) (omega arith)) in
-        rw (rows-last, lt-leb (rowsOf h * (x + 1)) rl (omega arith))
+        let few : (len .rows) < (x + 1) * rowsPer h = div-lt-iff-lt-mul (pow-pos (h - 6)) .0 (rw (← huge-by-rows (len .rows) huge, ← r-is) (omega arith)) in
+        rw (rows-last, lt-leb (rowsPer h * (x + 1)) (len .rows) (omega arith))
 
     module _ (rows : x < r) where
-      enough : rowsOf h * (x + 1) ≤ rl
+      enough : rowsPer h * (x + 1) ≤ len .rows
       enough =
-          let below : x + 1 ≤ rl / rowsOf h = rw (← huge-by-rows rl huge, ← r-is) (omega arith) in
+          let below : x + 1 ≤ (len .rows) / rowsPer h = rw (← huge-by-rows (len .rows) huge, ← r-is) (omega arith) in
           omega (arith, le-div-iff-mul-le (pow-pos (h - 6)) .0 below)
 
       -- rows enough, and entries too few
-      pub entries-short : el ≤ bitOr x (t - 1) → 3 ≡ lentCode h n t rl el
-      entries-short l = rw (rows-last, entries-last, le-leb _ rl enough, lt-leb (bitOr x (t - 1) + 1) el (omega arith))
+      pub entries-short : (len .entries) ≤ bitOr x (t - 1) → 3 ≡ lentCode h n t len
+      entries-short l = rw (rows-last, entries-last, le-leb _ (len .rows) enough, lt-leb (bitOr x (t - 1) + 1) (len .entries) (omega arith))
 
       -- both enough
-      pub both-lent : bitOr x (t - 1) < el → 0 ≡ lentCode h n t rl el
-      both-lent l = rw (rows-last, entries-last, le-leb _ rl enough, le-leb (bitOr x (t - 1) + 1) el (omega arith))
+      pub both-lent : bitOr x (t - 1) < len .entries → 0 ≡ lentCode h n t len
+      both-lent l = rw (rows-last, entries-last, le-leb _ (len .rows) enough, le-leb (bitOr x (t - 1) + 1) (len .entries) (omega arith))
 
 -- ---- 4: the order, where the top order is m
 
@@ -87,15 +88,15 @@ module _ (h t o : ℕ) {m : ℕ} (m-is : m ≡ topOrder h t) where
   pub order-past : m < o → 4 ≡ orderCode h t o
   order-past l = rw (← m-is, lt-leb o m l)
 
-module _ (h n t rl el o : ℕ) (e : orElse (sizesCode h n t rl el) (orderCode h t o) ≡ 0) where
+module _ (h n t : ℕ) (len : Lengths) (o : ℕ) (e : orElse (sizesCode h n t len) (orderCode h t o) ≡ 0) where
   -- where an order passed, the sizes before it did
-  pub order-sized : Sized h n t rl el
-  order-sized = sized h n t rl el (none-of (sizesCode h n t rl el) (orderCode h t o) e .0)
+  pub order-sized : Sized h n t len
+  order-sized = sized h n t len (none-of (sizesCode h n t len) (orderCode h t o) e .0)
 
   -- and the size of its block fits a word
   pub order-low : Huge h → o < 64
   order-low H =
-      let top : o ≤ topOrder h t = leb-true o (topOrder h t) (holds _ 3 (none-of (sizesCode h n t rl el) (orderCode h t o) e .1)) in
+      let top : o ≤ topOrder h t = leb-true o (topOrder h t) (holds _ 3 (none-of (sizesCode h n t len) (orderCode h t o) e .1)) in
       omega (arith, H .high, ltb-true (treeLog t) 10 (order-sized .tree))
 
 -- ---- 5 and 6: the end of a block of s frames, and then its alignment

@@ -5,6 +5,7 @@ ghost use Prim.Native.Nat.{_<_};
 ghost use Rattle.base.specs.Code.{orElse};
 ghost use Rattle.base.specs.Size.{Huge};
 ghost use Rattle.rules.specs.Numbers.{isTree};
+ghost use Rattle.rules.specs.State.{lengths};
 ghost use Rattle.rules.specs.Refusals.{framesCode, treeCode, lentCode, sizesCode, orderCode, blockCode, startCode, frameCode};
 
 fn frames(n: usize) -> u32
@@ -25,7 +26,7 @@ fn tree(t: usize) -> u32
 // 3: the last huge frame has its rows lent, and the last entry of its tree is lent.
 fn lent(h: usize, n: usize, t: usize, rows: usize, entries: usize) -> u32
     requires { ⌜ (Huge h) × (0 < n) × (isTree t ≡ true) ⌝ }
-    ensures { λ r. ⌜ r ≡ lentCode h n t rows entries ⌝ }
+    ensures { λ r. ⌜ r ≡ lentCode h n t (lengths rows entries) ⌝ }
 {
     let last = shape::frame_huge(h, n - 1);
     if shape::row_huge(h, rows) <= last {
@@ -40,7 +41,7 @@ fn lent(h: usize, n: usize, t: usize, rows: usize, entries: usize) -> u32
 // 1, 2 and 3: what every call checks.
 pub fn sizes(h: usize, n: usize, t: usize, rows: usize, entries: usize) -> u32
     requires { ⌜ Huge h ⌝ }
-    ensures { λ r. ⌜ r ≡ sizesCode h n t rows entries ⌝ }
+    ensures { λ r. ⌜ r ≡ sizesCode h n t (lengths rows entries) ⌝ }
 {
     let code = frames(n);
     if code != 0 {
@@ -56,7 +57,7 @@ pub fn sizes(h: usize, n: usize, t: usize, rows: usize, entries: usize) -> u32
 // 1 to 4.
 fn orders(h: usize, n: usize, t: usize, rows: usize, entries: usize, order: usize) -> u32
     requires { ⌜ Huge h ⌝ }
-    ensures { λ r. ⌜ r ≡ orElse (sizesCode h n t rows entries) (orderCode h t order) ⌝ }
+    ensures { λ r. ⌜ r ≡ orElse (sizesCode h n t (lengths rows entries)) (orderCode h t order) ⌝ }
 {
     let code = sizes(h, n, t, rows, entries);
     if code != 0 {
@@ -80,7 +81,7 @@ pub fn block(
     order: usize,
 ) -> u32
     requires { ⌜ Huge h ⌝ }
-    ensures { λ r. ⌜ r ≡ blockCode h n t rows entries frame order ⌝ }
+    ensures { λ r. ⌜ r ≡ blockCode h n t (lengths rows entries) frame order ⌝ }
 {
     let code = orders(h, n, t, rows, entries, order);
     if code != 0 {
@@ -111,7 +112,7 @@ pub fn start(
     order: usize,
 ) -> u32
     requires { ⌜ Huge h ⌝ }
-    ensures { λ r. ⌜ r ≡ startCode h n t rows entries row order ⌝ }
+    ensures { λ r. ⌜ r ≡ startCode h n t (lengths rows entries) row order ⌝ }
 {
     let code = orders(h, n, t, rows, entries, order);
     if code != 0 {
@@ -123,7 +124,7 @@ pub fn start(
 // 1, 2, 3 and 5, of a frame.
 pub fn frame(h: usize, n: usize, t: usize, rows: usize, entries: usize, frame: usize) -> u32
     requires { ⌜ Huge h ⌝ }
-    ensures { λ r. ⌜ r ≡ frameCode h n t rows entries frame ⌝ }
+    ensures { λ r. ⌜ r ≡ frameCode h n t (lengths rows entries) frame ⌝ }
 {
     let code = sizes(h, n, t, rows, entries);
     if code != 0 {

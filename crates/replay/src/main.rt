@@ -1,18 +1,12 @@
-// Replays lines of `trace`, by the same functions, and prints each answer with a digest of the needed entries and rows
+// Replays lines of `trace`, by the same dialogue, and prints each answer with a digest of the needed entries and rows
 // after it. Its stored input and output are a sample of the Rust's own answers (oracle/sample makes both), so a run shows
 // equality with the Rust where there is none at hand.
-ghost use mathlib.Core.Path.{_≡_};
 ghost use Prim.Native.Nat.{_≤_};
-ghost use lib.ListN.{length};
+ghost use Rattle.dialogue.specs.Feeds.{Ready};
+use dialogue::Reply;
+use dialogue::State;
 use libc::STDIN_FILENO;
 use libc::STDOUT_FILENO;
-
-// N and T of the last start that was done, and how much is kept of a line that has not ended.
-struct Desk {
-    n: usize,
-    t: usize,
-    kept: usize,
-}
 
 // FNV-1a: one byte more. The prime is 2^40 + 435, and the product wraps, as does each sum it is made of here.
 fn mixed(digest: u64, byte: u64) -> u64 {
@@ -81,45 +75,39 @@ fn digest(n: usize, t: usize, rows: &[u64], entries: &[u16]) -> u64 {
     start
 }
 
-// Answers a line: the digest stands where its LF was.
-fn answer(desk: Desk, line: &[u8], rows: &mut [u64], entries: &mut [u16]) -> Desk
-    ensures { λ r. ⌜ r .kept ≡ 0 ⌝ }
-{
-    let turn = turns::take(desk.n, desk.t, rows, entries, lines::read(line));
-    let said = turn.answer;
+// Prints an answer, if there is one, for N frames in trees of T: the digest stands where its LF was.
+fn print(n: usize, t: usize, rows: &[u64], entries: &[u16], reply: Reply) {
     let mut text = [0u8; 105];
-    let end = lines::write(&mut text, 0, said);
-    text[end - 1] = b' ';
-    let last = decimal::write(
-        &mut text,
-        end,
-        digest(turn.n, turn.t, rows, entries) as usize,
-    );
-    text[last] = b'\n';
-    let all = last + 1;
-    io::write_all(STDOUT_FILENO, &text[..all]);
-    Desk {
-        n: turn.n,
-        t: turn.t,
-        kept: 0,
+    let end = dialogue::print(&mut text, 0, reply);
+    if 0 < end {
+        text[end - 1] = b' ';
+        let last = decimal::write(&mut text, end, digest(n, t, rows, entries) as usize);
+        text[last] = b'\n';
+        let all = last + 1;
+        io::write_all(STDOUT_FILENO, &text[..all]);
     }
 }
 
-// Answers the lines of a part of the input. What it has of a line that has not ended is kept.
-fn serve(desk: Desk, input: &[u8], line: &mut [u8], rows: &mut [u64], entries: &mut [u16]) -> Desk
-    requires { ⌜ (desk .kept ≤ 65) × (65 ≤ length (now line)) ⌝ }
+// Answers the lines of a part of the input.
+fn serve(
+    state: State,
+    input: &[u8],
+    line: &mut [u8],
+    rows: &mut [u64],
+    entries: &mut [u16],
+) -> State
+    requires { ⌜ Ready state (now line) ⌝ }
     ensures { λ r. ⌜ r .kept ≤ 65 ⌝ }
 {
-    let mut now = desk;
-    let mut next = 0;
-    while next < input.len() {
-        let e = lines::end(input, next);
-        let kept = lines::keep(line, now.kept, &input[next..e]);
-        now.kept = kept;
-        if e < input.len() {
-            now = answer(now, &line[..kept], rows, entries);
-        }
-        next = e + 1;
+    let mut now = state;
+    let mut used = 0;
+    while used < input.len() {
+        let fed = dialogue::feed(now, &input[used..], line, rows, entries);
+        let after = fed.state;
+        let reply = fed.reply;
+        print(after.n, after.t, rows, entries, reply);
+        now = after;
+        used += fed.used;
     }
     now
 }
@@ -130,7 +118,7 @@ fn main() {
     let mut entries = [0u16; 512];
     let mut line = [0u8; 65];
     let mut input = io::large_buffer();
-    let mut desk = Desk {
+    let mut state = State {
         n: 0,
         t: 0,
         kept: 0,
@@ -142,7 +130,7 @@ fn main() {
         if count == 0 {
             return;
         }
-        desk = serve(desk, &input[..count], &mut line, &mut rows, &mut entries);
+        state = serve(state, &input[..count], &mut line, &mut rows, &mut entries);
         left -= 1;
     }
 }

@@ -6,7 +6,7 @@ ghost use lib.ListN.{length, replicate};
 ghost use Rattle.base.specs.Walk.{count};
 ghost use Rattle.base.specs.Size.{Huge};
 ghost use Rattle.rules.specs.Numbers.{isTree, topOrder};
-ghost use Rattle.rules.specs.State.{entriesAre};
+ghost use Rattle.rules.specs.State.{entriesAre, lengths};
 ghost use Rattle.rules.specs.Refusals.{Framed};
 ghost use Rattle.rules.specs.Room as spec;
 
@@ -51,7 +51,7 @@ fn at_order(h: usize, t: usize, top: usize, entries: &[u16], at: usize, order: u
 
 // Fills in the count of each order, in counts that are 0.
 pub fn counts(h: usize, t: usize, entries: &[u16], frame: usize, counts: &mut [usize])
-    requires { ⌜ (Huge h) × ((n : ℕ) × (rl : ℕ) × Framed h n t rl (length (now entries)) frame) × (now counts ≡ replicate (spec.orders h) 0) ⌝ }
+    requires { ⌜ (Huge h) × ((n : ℕ) × (rl : ℕ) × Framed h n t (lengths rl (length (now entries))) frame) × (now counts ≡ replicate (spec.orders h) 0) ⌝ }
     ensures { λ _. ⌜ now (counts .exit) ≡ spec.roomOf h t (now (entries .entry)) frame ⌝ }
 {
     let top = shape::top_order(h, t);

@@ -1,23 +1,24 @@
--- What a caller may conclude of one row's search: the lowest place, and the answer. Assumes nothing.
+-- The lowest place, and that the contract leaves one answer. Assumes nothing.
 use mathlib.Core.Path.{_≡_, refl, sym, ap, _∙_}
-use mathlib.Core.Bool.{Bool, true}
+use mathlib.Core.Bool.{Bool}
 use Prim.Native.Nat.{ℕ, _+_, _-_, _*_, _/_, _%_, _^_, _≤_, _<_}
 use native.Mathlib.Nat.{mul-mod-left, mul-le-mul-right, lt-of-mul-lt-mul-right, div-add-mod'}
 use native.Mathlib.Omega.{arith}
-use lib.Dec.{eqb, leb, ltb}
-use borrow.Author.Tests.{eqb-true, eqb-false, leb-true, ltb-true}
+use lib.Dec.{eqb}
+use borrow.Author.Tests.{eqb-true, eqb-false}
 use Rattle.base.specs.Walk.{pick, first}
-use Rattle.base.specs.Bits.{bitsAt, overlay}
-use Rattle.base.proofs.Walks.{first-hit, first-le, first-before, pick-case}
+use Rattle.base.specs.Bits.{bitsAt}
+use Rattle.base.proofs.Walks.{first-hit, first-le, first-before}
 use Rattle.base.proofs.Sizes.{pow-divides}
 use Rattle.row.specs.declared.Found.{Found}
 use Rattle.row.specs.declared.Found.the-variants.{At, Full, BadOrder}
-use Rattle.row.specs.Row.{Numbers, numbers, numbersOf, lowest, firstZeros}
+use Rattle.row.specs.Row.{Numbers, numbersOf, lowest}
+use Rattle.row.specs.Contracts.{FindsInRow}
 
 -- ---- the lowest place
 
--- row v's block of order o at place p is clear, within the row and aligned
-pub record Clear (v o p : ℕ) : Type 0 where
+-- row v's block of order o at place p is within the row, aligned, and 0 as a number
+pub record Zero (v o p : ℕ) : Type 0 where
   pub bits : bitsAt v p (2 ^ o) ≡ 0
   pub within : p + 2 ^ o ≤ 64
   pub aligned : p % 2 ^ o ≡ 0
@@ -37,7 +38,7 @@ module _ (o v : ℕ) where
   lowest-le h = omega (arith, pow-divides o 6 h, mul-le-mul-right (2 ^ o) (first-le clear (2 ^ (6 - o)) 0))
 
   -- where it is one of the row, the block there is clear
-  pub lowest-clear : o ≤ 6 → lowest o v < 64 → Clear v o (lowest o v)
+  pub lowest-clear : o ≤ 6 → lowest o v < 64 → Zero v o (lowest o v)
   unfolding lowest
   lowest-clear h l =
       let n = pow-divides o 6 h in
@@ -58,33 +59,6 @@ module _ (o v : ℕ) where
 
 -- ---- the answer
 
--- p is the lowest place of row v at order o, and r the row with the block there set
-pub record InRow (v o p r : ℕ) : Type 0 where
-  pub order : o ≤ 6
-  pub is : p ≡ lowest o v
-  pub low : p < 64
-  pub row : r ≡ overlay true v p (p + 2 ^ o)
-
--- that is what an answer with a place says
-pub in-row : (v o p r : ℕ) → firstZeros v o ≡ numbers 0 p r → InRow v o p r
-unfolding firstZeros
-in-row v o p r =
-    pick-case Says (leb o 6)
-    (λ b. pick-case Says (ltb (lowest o v) 64)
-    (λ l e.
-    let s : lowest o v ≡ p = ap (λ (x : Numbers). x .place) e in
-    record {
-      order = leb-true o 6 b;
-      is = sym s;
-      low = omega (arith, ltb-true (lowest o v) 64 l);
-      row = rw s at (sym (ap (λ (x : Numbers). x .row) e));
-    })
-    (λ l e. absurd (omega (arith, ap (λ (x : Numbers). x .code) e))))
-    (λ b e. absurd (omega (arith, ap (λ (x : Numbers). x .code) e)))
-  where
-    Says : Numbers → Type 0
-    Says x = x ≡ numbers 0 p r → InRow v o p r
-
 -- the answer that has these numbers
 answerOf : Numbers → Found
 answerOf x = pick (eqb (x .code) 0) (At (x .place) (x .row)) (pick (eqb (x .code) 7) Full BadOrder)
@@ -97,5 +71,5 @@ answer-of Full = refl
 answer-of BadOrder = refl
 
 -- the contract leaves one answer
-pub one-answer : (f g : Found) (v o : ℕ) → numbersOf f ≡ firstZeros v o → numbersOf g ≡ firstZeros v o → f ≡ g
+pub one-answer : (f g : Found) (v o : ℕ) → FindsInRow v o f → FindsInRow v o g → f ≡ g
 one-answer f g v o e h = sym (answer-of f) ∙ ap answerOf (e ∙ sym h) ∙ answer-of g

@@ -3,3 +3,4 @@ pub mod Lanes
 pub mod Laws
 pub mod Marks
 pub mod Past
+pub mod Theorems

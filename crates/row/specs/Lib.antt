@@ -1,1 +1,3 @@
+pub mod Contracts
+pub mod Means
 pub mod Row

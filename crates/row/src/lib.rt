@@ -1,7 +1,8 @@
 // The search of one row: 64 frames, a set bit is a held frame.
 ghost use mathlib.Core.Path.{_≡_};
 ghost use Prim.Native.Nat.{ℕ, _+_, _-_, _*_, _^_, _<_, _≤_};
-ghost use Rattle.row.specs.Row.{lowest, firstZeros, numbersOf, units};
+ghost use Rattle.row.specs.Row.{lowest, units};
+ghost use Rattle.row.specs.Contracts.{FindsInRow};
 
 // The answer of a search in one row.
 pub enum Found {
@@ -91,7 +92,7 @@ pub fn lowest_clear(v: u64, order: usize) -> u32
 
 // The answer for the lowest clear place of a block whose bits are `ones`, where it stands at place 0.
 fn taken(v: u64, place: u32, ones: u64) -> Found
-    ensures { λ r. ⌜ ((o : ℕ) → o ≤ 6 → ones ≡ 2 ^ 2 ^ o - 1 → place ≡ lowest o v → numbersOf r ≡ firstZeros v o) ⌝ }
+    ensures { λ r. ⌜ ((o : ℕ) → o ≤ 6 → ones ≡ 2 ^ 2 ^ o - 1 → place ≡ lowest o v → FindsInRow v o r) ⌝ }
 {
     if place < 64 {
         Found::At(place as usize, v | (ones << place))
@@ -102,7 +103,7 @@ fn taken(v: u64, place: u32, ones: u64) -> Found
 
 // The answer at order 5, half by half: a branch for each, since rows are mostly held in both halves or clear in one.
 fn taken_half(v: u64) -> Found
-    ensures { λ r. ⌜ numbersOf r ≡ firstZeros v 5 ⌝ }
+    ensures { λ r. ⌜ FindsInRow v 5 r ⌝ }
 {
     if v % 0x1_0000_0000 == 0 {
         return taken(v, 0, 0xffff_ffff);
@@ -115,7 +116,7 @@ fn taken_half(v: u64) -> Found
 
 // The lowest clear block of 2^order bits of a row, and the row with the block set.
 pub fn first_zeros_aligned(v: u64, order: usize) -> Found
-    ensures { λ r. ⌜ numbersOf r ≡ firstZeros v order ⌝ }
+    ensures { λ r. ⌜ FindsInRow v order r ⌝ }
 {
     match order {
         0 => taken(v, clear_bit(v), 0x1),

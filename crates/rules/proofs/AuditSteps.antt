@@ -1,12 +1,11 @@
 -- The walk of an audit over the huge frames: what its loop knows, what it answers, and that a clean answer says that no huge frame is faulty. Assumes nothing.
-use mathlib.Core.Path.{_≡_, refl, sym, ap, _∙_}
-use mathlib.Core.Bool.{Bool, true, false, not}
+use mathlib.Core.Path.{_≡_, sym, ap, _∙_}
+use mathlib.Core.Bool.{Bool, not}
 use Prim.Native.Nat.{ℕ, _+_, _≤_, _<_}
+use native.Mathlib.Decide.{decLt}
 use native.Mathlib.Omega.{arith}
-use native.Mathlib.Nat.{zero-add}
-use lib.Dec.{eqb, ltb}
-use borrow.Author.Tests.{eq-eqb, ne-eqb, eqb-true, eqb-false, lt-ltb, le-ltb, ltb-true, ltb-false, not-true, not-false}
-use Rattle.base.specs.Walk.{pick}
+use lib.Dec.{eqb}
+use borrow.Author.Tests.{eq-eqb, ne-eqb, eqb-true, eqb-false, lt-ltb, le-ltb, not-true, not-false}
 use Rattle.base.proofs.Walks.{FirstAt, first-start, first-found, first-more, first-none, first-hit, first-before, first-never}
 use Rattle.rules.specs.Numbers.{entriesNeeded}
 use Rattle.rules.specs.State.{Mem}
@@ -49,32 +48,37 @@ module _ {h n t : ℕ} {m : Mem} {needed : ℕ} where
         let here : x ≡ faultless h n t m = first-none (faulty h n m) _ x (a .walked) (rw (a .all) at l) in
         rw (← here, le-ltb x (entriesNeeded h n t) (rw (a .all) at l))
 
--- ---- clean answers
+-- ---- what an answer says
 
 module _ (h n t : ℕ) (m : Mem) where
-  -- a clean answer is given past the last huge frame
-  all-passed : auditAll h n t m ≡ fault 0 0 0 → entriesNeeded h n t ≤ faultless h n t m
-  unfolding faultless auditAll
-  all-passed e = go (ltb (faultless h n t m) (entriesNeeded h n t)) refl e
-    where
-      go : (b : Bool) → ltb (faultless h n t m) (entriesNeeded h n t) ≡ b
-          → pick {A = Fault} b (fault 0 (faultless h n t m) (reason h n m (faultless h n t m))) (fault 0 0 0) ≡ fault 0 0 0 → entriesNeeded h n t ≤ faultless h n t m
-      go true q f =
-          let low : faultless h n t m < entriesNeeded h n t = ltb-true (faultless h n t m) (entriesNeeded h n t) q in
-          let hit : faulty h n m (faultless h n t m) ≡ true = first-hit (faulty h n m) (entriesNeeded h n t) 0 (omega arith) in
-          absurd (eqb-false _ 0 (not-true _ hit) (ap (λ (a : Fault). a .reason) f))
-      go false q f = ltb-false (faultless h n t m) (entriesNeeded h n t) q
+  -- one that is not clean names the first faulty huge frame
+  pub audit-named : faultless h n t m < entriesNeeded h n t → auditAll h n t m ≡ fault 0 (faultless h n t m) (reason h n m (faultless h n t m))
+  unfolding auditAll
+  audit-named l = rw (lt-ltb (faultless h n t m) (entriesNeeded h n t) l)
 
-  -- so it says that no huge frame has a reason
-  pub audit-clean-each : auditAll h n t m ≡ fault 0 0 0 → (x : ℕ) → x < entriesNeeded h n t → reason h n m x ≡ 0
+  pub named-faulty : faultless h n t m < entriesNeeded h n t → reason h n m (faultless h n t m) ≡ 0 → ⊥
   unfolding faultless
-  audit-clean-each e x l =
-      eqb-true (reason h n m x) 0 (not-false _ (first-before (faulty h n m) (entriesNeeded h n t) 0 x (omega arith) (omega (arith, all-passed e))))
+  named-faulty l = eqb-false _ 0 (not-true _ (first-hit (faulty h n m) (entriesNeeded h n t) 0 (omega arith)))
+
+  pub none-before : (x : ℕ) → x < faultless h n t m → reason h n m x ≡ 0
+  unfolding faultless
+  none-before x l = eqb-true (reason h n m x) 0 (not-false _ (first-before (faulty h n m) (entriesNeeded h n t) 0 x (omega arith) l))
+
+  pub audit-none : entriesNeeded h n t ≤ faultless h n t m → auditAll h n t m ≡ fault 0 0 0
+  unfolding auditAll
+  audit-none l = rw (le-ltb (faultless h n t m) (entriesNeeded h n t) l)
+
+  -- a clean one is given past the last huge frame, and says that none has a reason
+  pub audit-clean-each : auditAll h n t m ≡ fault 0 0 0 → (x : ℕ) → x < entriesNeeded h n t → reason h n m x ≡ 0
+  audit-clean-each e x l = elim (decLt (faultless h n t m) (entriesNeeded h n t)) [
+    | yes u ↦ absurd (named-faulty u (ap (λ (a : Fault). a .reason) (sym (audit-named u) ∙ e)))
+    | no u ↦ none-before x (omega arith)
+  ]
 
   -- and where none has, the answer is clean
   pub audit-each-clean : ((x : ℕ) → x < entriesNeeded h n t → reason h n m x ≡ 0) → auditAll h n t m ≡ fault 0 0 0
-  unfolding faultless auditAll
+  unfolding faultless
   audit-each-clean e =
       let last : faultless h n t m ≡ 0 + entriesNeeded h n t =
       first-never (faulty h n m) (entriesNeeded h n t) 0 (λ x _ l. ap not (eq-eqb (reason h n m x) 0 (e x (omega arith)))) in
-      rw (last, zero-add, le-ltb (entriesNeeded h n t) (entriesNeeded h n t) (omega arith))
+      audit-none (omega arith)

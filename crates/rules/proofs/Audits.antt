@@ -1,11 +1,10 @@
--- A clean audit is exactly a consistent state. Assumes nothing.
+-- A clean audit is exactly a consistent state, and any other names the first faulty huge frame. Assumes nothing.
 use mathlib.Core.Path.{_≡_, refl, sym, ap, _∙_}
 use mathlib.Core.Bool.{true, false}
 use mathlib.Core.Logic.{_⊎_, inl, inr, ⊎-elim}
 use Prim.Native.Nat.{ℕ, _+_, _-_, _*_, _^_, _<_}
 use native.Mathlib.Decide.{decLt, ℕ-discrete}
 use native.Mathlib.Omega.{arith}
-use lib.ListN.{length}
 use Rattle.base.specs.Bits.{bitIs}
 use Rattle.base.specs.Size.{Huge}
 use Rattle.base.proofs.Walks.{count-le}
@@ -18,10 +17,11 @@ use Rattle.rules.proofs.Numbers.{tree-pos}
 use Rattle.rules.proofs.Lent.{sized, sized-passes}
 use Rattle.rules.proofs.Present.{present-entry}
 use Rattle.rules.specs.declared.Fault.{Fault}
-use Rattle.rules.specs.Audit.{fault, reason, auditAll, audit}
+use Rattle.rules.specs.Audit.{fault, reason, faultless, auditAll, audit}
 use Rattle.rules.proofs.Reasons.{reason-clean-absent, reason-absent-clean, reason-clean-marked, reason-marked-clean, reason-clean-counted, reason-counted-clean}
-use Rattle.rules.proofs.AuditSteps.{audit-clean-each, audit-each-clean}
+use Rattle.rules.proofs.AuditSteps.{audit-named, named-faulty, none-before, audit-none, audit-clean-each, audit-each-clean}
 use Rattle.rules.specs.Consistent.{Fits, ByMark, ByCount, Consistent}
+use Rattle.rules.specs.Exact.{Audited}
 use Rattle.rules.proofs.Frees.{no-mark}
 
 -- ---- one huge frame
@@ -72,7 +72,7 @@ clean-is-consistent h n t m H fits = (clean, consistent)
     clean : audit h n t m ≡ fault 0 0 0 → Consistent h n t m
     clean e =
         let a = done (auditAll h n t m) (fault (sizesRefusal h n t m) 0 0) (λ r. r .code) refl (ap (λ (r : Fault). r .code) e) in
-        let s = sized h n t (length (m .rows)) (length (m .entries)) (a .0) in
+        let s = sized h n t _ (a .0) in
         let none = audit-clean-each h n t m (sym (a .1) ∙ e) in
         record {
           sized = s;
@@ -83,3 +83,35 @@ clean-is-consistent h n t m H fits = (clean, consistent)
 
     consistent : Consistent h n t m → audit h n t m ≡ fault 0 0 0
     consistent c = rw (sized-passes (c .sized)) (audit-each-clean h n t m (consistent-reasonless H c))
+
+-- ---- the first that is faulty
+
+pub audit-names-first : (h n t : ℕ) (m : Mem) (x r : ℕ) → audit h n t m ≡ fault 0 x r → Audited h n t m x r
+unfolding audit
+audit-names-first h n t m x r e =
+    let a = done (auditAll h n t m) (fault (sizesRefusal h n t m) 0 0) (λ f. f .code) refl (ap (λ (f : Fault). f .code) e) in
+    let s = sized h n t _ (a .0) in
+    let answer : auditAll h n t m ≡ fault 0 x r = sym (a .1) ∙ e in
+    elim (decLt (faultless h n t m) (entriesNeeded h n t)) [
+      | yes l ↦
+          let is : fault 0 (faultless h n t m) (reason h n m (faultless h n t m)) ≡ fault 0 x r = sym (audit-named h n t m l) ∙ answer in
+          let x-is : faultless h n t m ≡ x = ap (λ (f : Fault). f .huge) is in
+          let r-is : reason h n m (faultless h n t m) ≡ r = ap (λ (f : Fault). f .reason) is in
+          record {
+            has = rw (← x-is) r-is;
+            needed = rw (← x-is) l;
+            first = λ y u. none-before h n t m y (omega arith);
+            clean = λ z. absurd (named-faulty h n t m l (r-is ∙ z));
+          }
+      | no l ↦
+          let is : fault 0 0 0 ≡ fault 0 x r = sym (audit-none h n t m (omega arith)) ∙ answer in
+          let x-is : 0 ≡ x = ap (λ (f : Fault). f .huge) is in
+          let none : (y : ℕ) → y < entriesNeeded h n t → reason h n m y ≡ 0 = λ y u. none-before h n t m y (omega arith) in
+          let some : 0 < entriesNeeded h n t = present-entry h n t 0 (tree-pos t (s .tree)) (omega (arith, s .some)) in
+          record {
+            has = rw (← x-is) (none 0 some ∙ ap (λ (f : Fault). f .reason) is);
+            needed = rw (← x-is) some;
+            first = λ y u. absurd (omega arith);
+            clean = λ _. (sym x-is, none);
+          }
+    ]

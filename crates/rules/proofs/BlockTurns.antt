@@ -7,33 +7,24 @@ use native.Mathlib.Nat.{div-add-mod'}
 use native.Mathlib.Omega.{arith}
 use lib.ListN.{length, take, drop, length-drop, take-append-drop}
 use lib.Seq.{length-take-le}
-use borrow.Author.Tests.{eq-eqb, le-leb}
-use Rattle.base.specs.Code.{Out, out, orElse}
-use Rattle.base.specs.Size.{Huge, rowsOf}
+use Rattle.base.specs.Code.{Out, out}
+use Rattle.base.specs.Size.{Huge, rowsPer}
 use Rattle.base.specs.Bits.{blockIs, withBits}
 use Rattle.base.proofs.Sizes.{rows-frames, first-row, rest-by-less, place-ends}
 use Rattle.base.proofs.Parts.{block-part, with-part}
-use Rattle.bitfield_rules.specs.Calls.{blockCode, toggle}
-use Rattle.bitfield_rules.proofs.Laws.{Within}
+use Rattle.bitfield_rules.specs.Calls.{toggle}
+use Rattle.bitfield_rules.specs.Means.{Within}
+use Rattle.bitfield_rules.proofs.Laws.{passes-within}
 use Rattle.bitfield_rules.proofs.Toggles.{toggle-turned, toggle-left}
 use Rattle.rules.specs.State.{toggled}
 
--- a block that lies in a huge frame is not refused
-unrefused : {h len p o : ℕ} → Within h len p o → blockCode h len p o ≡ 0
-unfolding orElse
-unrefused w = rw (eq-eqb _ _ (w .rows), le-leb _ _ (w .order), le-leb _ _ (w .ends), eq-eqb _ _ (w .aligned))
-
--- the first row of a frame's huge frame is no later than the frame's own
-pub first-row-low : {h : ℕ} → Huge h → (f : ℕ) → f / 2 ^ h * rowsOf h * 64 ≤ f
-first-row-low {h} H f = omega (arith, first-row H (f / 2 ^ h), div-add-mod' f (2 ^ h))
-
 -- an aligned block of at most a huge frame lies in one
-pub placed-within : {h : ℕ} (f o : ℕ) → o ≤ h → f % 2 ^ o ≡ 0 → Within h (rowsOf h) (f % 2 ^ h) o
+pub placed-within : {h : ℕ} (f o : ℕ) → o ≤ h → f % 2 ^ o ≡ 0 → Within h (rowsPer h) (f % 2 ^ h) o
 placed-within {h} f o low even = record { rows = refl; order = low; ends = place-ends f o h low even; aligned = rest-by-less f o h low ∙ even }
 
-module _ {h : ℕ} (H : Huge h) (rows : List ℕ) (f o : ℕ) (b : Bool) (low : o ≤ h) (even : f % 2 ^ o ≡ 0) (lent : (f / 2 ^ h + 1) * rowsOf h ≤ length rows) where
+module _ {h : ℕ} (H : Huge h) (rows : List ℕ) (f o : ℕ) (b : Bool) (low : o ≤ h) (even : f % 2 ^ o ≡ 0) (lent : (f / 2 ^ h + 1) * rowsPer h ≤ length rows) where
   -- the huge frame's k rows from row a on are lent, with the block at their place p, and come back as ys
-  pub toggled-part : (a k p : ℕ) → a ≡ f / 2 ^ h * rowsOf h → k ≡ rowsOf h → p ≡ f % 2 ^ h → (r : ℕ) (ys : List ℕ)
+  pub toggled-part : (a k p : ℕ) → a ≡ f / 2 ^ h * rowsPer h → k ≡ rowsPer h → p ≡ f % 2 ^ h → (r : ℕ) (ys : List ℕ)
       → out r ys ≡ toggle h (take k (drop a rows)) p o b → out r (take a rows ++ (ys ++ drop k (drop a rows))) ≡ toggled rows f o b
   unfolding toggled
   toggled-part a k p ea ek ep r ys e = go (blockIs b rows f (2 ^ o)) refl
@@ -51,7 +42,7 @@ module _ {h : ℕ} (H : Huge h) (rows : List ℕ) (f o : ℕ) (b : Bool) (low : 
       fits : a + k ≤ length rows
       fits = rw (ea, ek) (omega arith)
 
-      long : length part ≡ rowsOf h
+      long : length part ≡ rowsPer h
       long = length-take-le k (drop a rows) (omega (arith, fits, length-drop a rows)) ∙ ek
 
       within : Within h (length part) p o
@@ -72,8 +63,8 @@ module _ {h : ℕ} (H : Huge h) (rows : List ℕ) (f o : ℕ) (b : Bool) (low : 
           with-part (not b) rows a k p (p + 2 ^ o) fits (omega arith) ends ∙ rw (last, at)
 
       go : (t : Bool) → blockIs b rows f (2 ^ o) ≡ t → out r (with ys) ≡ toggled rows f o b
-      go true q = ap (λ (x : Out ℕ (List ℕ)). out (x .answer) (with (x .left))) (e ∙ sym (toggle-turned h part p o b (unrefused within) (is ∙ q))) ∙ ap (out 0) write ∙ rw q
-      go false q = ap (λ (x : Out ℕ (List ℕ)). out (x .answer) (with (x .left))) (e ∙ sym (toggle-left h part p o b (unrefused within) (is ∙ q))) ∙ ap (out 7) back ∙ rw q
+      go true q = ap (λ (x : Out ℕ (List ℕ)). out (x .answer) (with (x .left))) (e ∙ sym (toggle-turned h part p o b (passes-within within) (is ∙ q))) ∙ ap (out 0) write ∙ rw q
+      go false q = ap (λ (x : Out ℕ (List ℕ)). out (x .answer) (with (x .left))) (e ∙ sym (toggle-left h part p o b (passes-within within) (is ∙ q))) ∙ ap (out 7) back ∙ rw q
 
 -- ---- what a turn leaves
 

@@ -3,34 +3,25 @@ use mathlib.Core.Path.{_≡_, refl, _∙_}
 use mathlib.Core.Bool.{Bool, true, false}
 use mathlib.Core.List.{List}
 use Prim.Native.Nat.{ℕ, _+_, _-_, _*_, _^_, _≤_, _<_}
-use native.Mathlib.Nat.{zero-add, sub-zero, mul-assoc}
+use native.Mathlib.Nat.{zero-add, sub-zero}
 use native.Mathlib.Omega.{arith}
 use lib.ListN.{length, take}
 use lib.Seq.{length-take-le}
-use Rattle.base.specs.Walk.{count}
 use Rattle.base.specs.Bits.{bitIs, blockIs}
-use Rattle.base.specs.Size.{Huge, rowsOf}
+use Rattle.base.specs.Size.{Huge, rowsPer}
 use Rattle.base.proofs.Walks.{count-full}
-use Rattle.base.proofs.Sizes.{rows-frames, first-row, frames-fit}
+use Rattle.base.proofs.Sizes.{first-row}
 use Rattle.base.proofs.Frames.{block-of, zeros-block}
-use Rattle.base.proofs.Parts.{part-long, zeros-part, block-part}
-use Rattle.rules.specs.State.{partOf, clearOf}
+use Rattle.base.proofs.Parts.{part-long, block-part}
+use Rattle.rules.specs.State.{rowsOf, clearOf}
 use Rattle.rules.proofs.Needed.{frames-word}
 
 -- ---- clear bits
 
-module _ {h : ℕ} (H : Huge h) (rs : List ℕ) (x : ℕ) (lent : (x + 1) * rowsOf h ≤ length rs) where
+module _ {h : ℕ} (H : Huge h) (rs : List ℕ) (x : ℕ) (lent : (x + 1) * rowsPer h ≤ length rs) where
   -- as many rows as a huge frame has are lent to it
-  rows-long : length (partOf h rs x) ≡ rowsOf h
-  rows-long = part-long rs (x * rowsOf h) (rowsOf h) (omega arith)
-
-  -- a huge frame's rows have few enough bits for a word to count
-  pub part-fits : length (partOf h rs x) * 64 < 2 ^ 64
-  part-fits = rw rows-long (omega (arith, rows-frames H, frames-fit H))
-
-  -- its clear bits are those of its rows
-  pub clear-by-part : count (bitIs false (partOf h rs x)) (length (partOf h rs x) * 64) 0 ≡ clearOf h rs x
-  clear-by-part = rw (rows-long, rows-frames H, ← mul-assoc) (zeros-part rs (x * rowsOf h) (rowsOf h))
+  rows-long : length (rowsOf h rs x) ≡ rowsPer h
+  rows-long = part-long rs (x * rowsPer h) (rowsPer h) (omega arith)
 
 module _ (h : ℕ) (rs : List ℕ) (x : ℕ) where
   -- they are all of its bits exactly if all of these are clear
@@ -51,10 +42,10 @@ pub none-past : (rs : List ℕ) (n end : ℕ) → end ≤ n → blockIs true rs 
 none-past rs n end l = block-of true rs n (end - n) (λ f lo hi. absurd (omega arith))
 
 -- else they end with its last row, and the code takes the k rows up to that one
-module _ {h : ℕ} (H : Huge h) (rs : List ℕ) (n x k : ℕ) (lent : (x + 1) * rowsOf h ≤ length rs) (k-is : k ≡ (x + 1) * rowsOf h) where
+module _ {h : ℕ} (H : Huge h) (rs : List ℕ) (n x k : ℕ) (lent : (x + 1) * rowsPer h ≤ length rs) (k-is : k ≡ (x + 1) * rowsPer h) where
   -- so many rows there are
-  first-long : length (take (k - 0) rs) ≡ (x + 1) * rowsOf h
-  first-long = rw (sub-zero, k-is) (length-take-le ((x + 1) * rowsOf h) rs lent)
+  first-long : length (take (k - 0) rs) ≡ (x + 1) * rowsPer h
+  first-long = rw (sub-zero, k-is) (length-take-le ((x + 1) * rowsPer h) rs lent)
 
   -- whose bits end where the huge frame does
   first-bits : length (take (k - 0) rs) * 64 ≡ (x + 1) * 2 ^ h

@@ -10,14 +10,17 @@ use lib.ListN.{getD}
 use lib.Seq.{ext-getD}
 use borrow.Author.Tests.{eq-eqb, ne-eqb}
 use Rattle.base.specs.Bits.{bitIs}
-use Rattle.base.specs.Size.{Huge, rowsOf}
+use Rattle.base.specs.Size.{Huge, rowsPer}
 use Rattle.base.proofs.SameRows.{same-row}
 use Rattle.base.proofs.Walks.{count-same}
 use Rattle.rules.specs.Numbers.{mark, rowsNeeded, entriesNeeded}
 use Rattle.rules.specs.State.{Mem, mem, entryOf, clearOf}
-use Rattle.rules.proofs.Present.{row-present, row-within}
+use Rattle.rules.proofs.Present.{present-entry, row-present, row-within}
+use Rattle.rules.proofs.Numbers.{tree-pos}
 use Rattle.rules.specs.Consistent.{ByCount, Consistent, free}
-use Rattle.rules.proofs.Beyonds.{Beyond}
+use Rattle.rules.specs.Marks.{marked}
+use Rattle.rules.specs.Same.{Same, StateIsDetermined}
+use Rattle.rules.proofs.Beyond.{Beyond}
 use Rattle.rules.proofs.Frees.{no-mark, counted-free, entry-told}
 
 -- ---- one present huge frame
@@ -33,34 +36,37 @@ module _ {h n t : ℕ} {m : Mem} (H : Huge h) (c : Consistent h n t m) (x : ℕ)
 -- ---- two states
 
 module _ {h n t : ℕ} {a b : Mem} (H : Huge h) (ca : Consistent h n t a) (cb : Consistent h n t b)
-    (frees : (f : ℕ) → free h n b f ≡ free h n a f)
-    (marks : (x : ℕ) → eqb (entryOf (b .entries) x) mark ≡ eqb (entryOf (a .entries) x) mark)
-    (beyond : Beyond h n t a b) where
-  same-clear : (x : ℕ) → x * 2 ^ h < n → (f : ℕ) → x * 2 ^ h ≤ f → f < (x + 1) * 2 ^ h → bitIs false (b .rows) f ≡ bitIs false (a .rows) f
-  same-clear x l f low high = clear-told H cb x l f low high ∙ ap₂ _||_ (marks x) (frees f) ∙ sym (clear-told H ca x l f low high)
+    (frees : (f : ℕ) → free h n a f ≡ free h n b f)
+    (marks : (x : ℕ) → x < entriesNeeded h n t → marked a x ≡ marked b x) where
+  module _ (x : ℕ) (l : x * 2 ^ h < n) where
+    same-mark : marked a x ≡ marked b x
+    same-mark = marks x (present-entry h n t x (tree-pos t (ca .sized .tree)) l)
 
-  same-rows : (i : ℕ) → getD (b .rows) i 0 ≡ getD (a .rows) i 0
-  same-rows i = elim (decLt i (rowsNeeded h n)) [
-    | yes l ↦
-        same-row (b .rows) (a .rows) (cb .fits .rows) (ca .fits .rows) i
-        (λ f low high. let own = row-within H i f low high in same-clear (i / rowsOf h) (row-present h n i l) f (own .0) (own .1))
-    | no l ↦ beyond .rows i (omega arith)
-  ]
+    same-clear : (f : ℕ) → x * 2 ^ h ≤ f → f < (x + 1) * 2 ^ h → bitIs false (a .rows) f ≡ bitIs false (b .rows) f
+    same-clear f low high = clear-told H ca x l f low high ∙ ap₂ _||_ same-mark (frees f) ∙ sym (clear-told H cb x l f low high)
 
-  same-count : (x : ℕ) → x * 2 ^ h < n → clearOf h (b .rows) x ≡ clearOf h (a .rows) x
-  same-count x l = count-same (bitIs false (b .rows)) (bitIs false (a .rows)) (2 ^ h) (x * 2 ^ h) (λ f low high. same-clear x l f low (omega arith))
+    same-count : clearOf h (a .rows) x ≡ clearOf h (b .rows) x
+    same-count = count-same (bitIs false (a .rows)) (bitIs false (b .rows)) (2 ^ h) (x * 2 ^ h) (λ f low high. same-clear f low (omega arith))
 
-  same-entries : (x : ℕ) → entryOf (b .entries) x ≡ entryOf (a .entries) x
-  same-entries x = elim (decLt (x * 2 ^ h) n) [
-    | yes l ↦ entry-told H cb x l ∙ rw (marks x, same-count x l) (sym (entry-told H ca x l))
-    | no l ↦ elim (decLt x (entriesNeeded h n t)) [
-      | yes u ↦ cb .absent x (omega arith) u ∙ sym (ca .absent x (omega arith) u)
-      | no u ↦ beyond .entries x (omega arith)
-    ]
-  ]
+  same : Same h n t a b
+  same = record {
+    rows = λ i l. same-row (a .rows) (b .rows) (ca .fits .rows) (cb .fits .rows) i
+        (λ f low high. let own = row-within H i f low high in same-clear (i / rowsPer h) (row-present h n i l) f (own .0) (own .1));
+    entries = λ x u. elim (decLt (x * 2 ^ h) n) [
+      | yes l ↦ entry-told H ca x l ∙ rw (same-mark x l, same-count x l) (sym (entry-told H cb x l))
+      | no l ↦ ca .absent x (omega arith) u ∙ sym (cb .absent x (omega arith) u)
+    ];
+  }
 
-  pub determined : b ≡ a
-  determined =
-      ap₂ mem
-      (ext-getD 0 (b .rows) (a .rows) (beyond .long .0) (λ i _. same-rows i))
-      (ext-getD 0 (b .entries) (a .entries) (beyond .long .1) (λ x _. same-entries x))
+pub determined : StateIsDetermined
+determined h n t a b H ca cb = same H ca cb
+
+-- with what lies beyond, all of the memory is the same
+pub same-all : {h n t : ℕ} {a b : Mem} → Same h n t b a → Beyond h n t a b → b ≡ a
+same-all {h} {n} {t} {a} {b} s k = ap₂ mem (ext-getD 0 (b .rows) (a .rows) (k .long .0) (λ i _. rows i)) (ext-getD 0 (b .entries) (a .entries) (k .long .1) (λ x _. entries x))
+  where
+    rows : (i : ℕ) → getD (b .rows) i 0 ≡ getD (a .rows) i 0
+    rows i = elim (decLt i (rowsNeeded h n)) [ yes l ↦ s .rows i l | no l ↦ k .rows i (omega arith) ]
+
+    entries : (x : ℕ) → entryOf (b .entries) x ≡ entryOf (a .entries) x
+    entries x = elim (decLt x (entriesNeeded h n t)) [ yes l ↦ s .entries x l | no l ↦ k .entries x (omega arith) ]

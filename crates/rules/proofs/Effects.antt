@@ -1,5 +1,5 @@
--- What a call that takes or gives back a block does to a consistent state: the state stays consistent, exactly the block's frames turn, and marks come and go only
--- with the frames under them. And which frames are a block's. Assumes nothing.
+-- What a call that takes or gives back a block does to a consistent state: the state stays consistent, and exactly the block's frames turn. And which frames are a
+-- block's. Assumes nothing.
 use mathlib.Core.Path.{_≡_}
 use mathlib.Core.Bool.{true, false}
 use mathlib.Core.Logic.{_⊎_, inl, inr, ⊎-elim}
@@ -7,8 +7,7 @@ use Prim.Native.Nat.{ℕ, _+_, _^_, _≤_, _<_}
 use native.Mathlib.Decide.{decLt}
 use native.Mathlib.Omega.{arith}
 use borrow.Author.Tests.{le-leb, lt-leb, lt-ltb, le-ltb}
-use Rattle.rules.specs.Numbers.{mark, hugeOf}
-use Rattle.rules.specs.State.{Mem, entryOf}
+use Rattle.rules.specs.State.{Mem}
 use Rattle.rules.specs.Consistent.{Consistent, inBlock}
 use Rattle.rules.specs.Exact.{Taken, Given}
 
@@ -16,15 +15,11 @@ use Rattle.rules.specs.Exact.{Taken, Given}
 pub record Took (h n t : ℕ) (m left : Mem) (a o : ℕ) : Type 0 where
   pub consistent : Consistent h n t left
   pub taken : Taken h n m left a o
-  pub new-mark : (x : ℕ) → entryOf (left .entries) x ≡ mark → (entryOf (m .entries) x ≡ mark) ⊎ ((f : ℕ) → hugeOf h f ≡ x → inBlock a o f ≡ true)
-  pub old-mark : (x : ℕ) → entryOf (m .entries) x ≡ mark → entryOf (left .entries) x ≡ mark
 
 -- the block was given back
 pub record Gave (h n t : ℕ) (m left : Mem) (a o : ℕ) : Type 0 where
   pub consistent : Consistent h n t left
   pub given : Given h n m left a o
-  pub new-mark : (x : ℕ) → entryOf (left .entries) x ≡ mark → entryOf (m .entries) x ≡ mark
-  pub old-mark : (x : ℕ) → entryOf (m .entries) x ≡ mark → (entryOf (left .entries) x ≡ mark) ⊎ ((f : ℕ) × (hugeOf h f ≡ x) × (inBlock a o f ≡ true))
 
 -- ---- a block's frames, and those beside it
 

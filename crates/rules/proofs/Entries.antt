@@ -1,7 +1,7 @@
 -- Entries: the free count of one, the entry of a huge frame that is free whole, and the free frames of a run. Assumes nothing.
 use mathlib.Core.Path.{_≡_, sym, _∙_}
 use mathlib.Core.List.{List}
-use Prim.Native.Nat.{ℕ, _*_, _%_, _^_, _≤_, _<_, zero-le}
+use Prim.Native.Nat.{ℕ, _^_, _≤_, _<_, zero-le}
 use native.Mathlib.Decide.{ℕ-discrete}
 use native.Mathlib.Nat.{div-one}
 use native.Mathlib.Omega.{arith}
@@ -9,7 +9,6 @@ use lib.Dec.{eqb}
 use lib.Pow.{pow-pos}
 use borrow.Author.Tests.{eq-eqb, ne-eqb}
 use Rattle.base.specs.Size.{Huge}
-use Rattle.base.proofs.Masks.{shl-one}
 use Rattle.base.proofs.Sizes.{frames-fit}
 use Rattle.base.proofs.Sums.{sum-same}
 use Rattle.base.proofs.Walks.{pick-case}
@@ -29,11 +28,7 @@ module _ {e : ℕ} where
 pub free-most : (e : ℕ) → e < 2 ^ 16 → freeOf e ≤ mark
 free-most e l = pick-case (λ (x : ℕ). x ≤ mark) (eqb e mark) (λ _. zero-le) (λ _. omega arith)
 
--- the entry of a huge frame that is free whole has room for its count: what `1 << h` is in 16 bits
-pub whole-entry : {h : ℕ} → Huge h → 1 * 2 ^ h % 2 ^ 16 ≡ 2 ^ h
-whole-entry {h} H = shl-one 16 h (omega (arith, H .high))
-
--- it is not the mark
+-- the entry of a huge frame that is free whole is not the mark
 pub whole-not-mark : {h e : ℕ} → Huge h → e ≡ 2 ^ h → e ≡ mark → ⊥
 whole-not-mark H q k = omega (arith, frames-fit H)
 

@@ -21,7 +21,7 @@ use Rattle.rules.specs.Get.{got, getHugeAt, getSmallAt, get, getAt}
 use Rattle.rules.proofs.Lent.{blocked}
 use Rattle.rules.specs.Put.{putHuge, putSmall, put}
 use Rattle.rules.specs.Queries.{isFreeHuge, isFreeSmall, isFree}
-use Rattle.rules.specs.Call.{OnBlock, Call, called}
+use Rattle.rules.specs.Call.{BlockCall, Call, called}
 use Rattle.rules.specs.Consistent.{Consistent, free, held}
 use Rattle.rules.specs.Exact.{Missed, First, Demand2}
 use Rattle.rules.proofs.Effects.{Took, Gave}
@@ -72,25 +72,25 @@ module _ {h n t : ℕ} {m : Mem} (H : Huge h) (c : Consistent h n t m) where
     get-at-exact : (getAt h n t m a o .answer ≡ pick (all (free h n m) (2 ^ o) a) (got 0 a 1) (got 7 0 1))
         × (all (free h n m) (2 ^ o) a ≡ true → Took h n t m (getAt h n t m a o .left) a o)
     get-at-exact = elim (decLt o h) [
-      | yes l ↦ let w = get-small-at-exact H c l (blocked h n t _ _ a o e) in rw (get-at-low h n t m a o e l) (w .0, w .1)
-      | no l ↦ let w = get-huge-at-exact H c a o (omega arith) (blocked h n t _ _ a o e) in rw (get-at-high h n t m a o e (omega arith)) (w .0, w .1 .0)
+      | yes l ↦ let w = get-small-at-exact H c l (blocked h n t _ a o e) in rw (get-at-low h n t m a o e l) (w .0, w .1)
+      | no l ↦ let w = get-huge-at-exact H c a o (omega arith) (blocked h n t _ a o e) in rw (get-at-high h n t m a o e (omega arith)) (w .0, w .1 .0)
     ]
 
     put-exact : (put h n t m a o .answer ≡ unless (all (held h n m) (2 ^ o) a && pick (ltb o h) true (entriesAre mark (m .entries) (hugeOf h a) (groupOf h o))) 7)
         × (put h n t m a o .answer ≡ 0 → Gave h n t m (put h n t m a o .left) a o)
     put-exact = elim (decLt o h) [
       | yes l ↦
-          let w = put-small-exact H c l (blocked h n t _ _ a o e) in
+          let w = put-small-exact H c l (blocked h n t _ a o e) in
           rw (put-low h n t m a o e l, lt-ltb o h l, and-true (all (held h n m) (2 ^ o) a)) w
       | no l ↦
-          let w = put-huge-exact H c a o (omega arith) (blocked h n t _ _ a o e) in
+          let w = put-huge-exact H c a o (omega arith) (blocked h n t _ a o e) in
           rw (put-high h n t m a o e (omega arith), le-ltb o h (omega arith)) w
     ]
 
     is-free-exact : isFree h n t m a o ≡ answered 0 (all (free h n m) (2 ^ o) a)
     is-free-exact = elim (decLt o h) [
-      | yes l ↦ is-free-low h n t m a o e l ∙ ap (answered 0) (is-free-small-exact H c l (blocked h n t _ _ a o e))
-      | no l ↦ is-free-high h n t m a o e (omega arith) ∙ ap (answered 0) (is-free-huge-exact H c a o (omega arith) (blocked h n t _ _ a o e))
+      | yes l ↦ is-free-low h n t m a o e l ∙ ap (answered 0) (is-free-small-exact H c l (blocked h n t _ a o e))
+      | no l ↦ is-free-high h n t m a o e (omega arith) ∙ ap (answered 0) (is-free-huge-exact H c a o (omega arith) (blocked h n t _ a o e))
     ]
 
 pub calls-are-exact : Demand2
@@ -110,7 +110,7 @@ calls-are-exact h n t m H c = record {
 
 -- one that is done passed its checks
 module _ (h n t : ℕ) (m : Mem) (a o : ℕ) where
-  get-passed : get h n t m a o .answer .code ≡ 0 → startRefusal h n t m a o ≡ 0
+  pub get-passed : get h n t m a o .answer .code ≡ 0 → startRefusal h n t m a o ≡ 0
   unfolding get
   get-passed z = done _ (out (got (startRefusal h n t m a o) 0 0) m) (λ (r : Out Got Mem). r .answer .code) refl z .0
 
@@ -137,7 +137,7 @@ module _ {h n t : ℕ} {m : Mem} (H : Huge h) (c : Consistent h n t m) where
   unfolding called
   get-at-does a o = elim (ℕ-discrete (getAt h n t m a o .answer .code) 0) [
     | yes z ↦ let w = get-at-exact H c a o (get-at-passed h n t m a o z) in inr (z, took z (all (free h n m) (2 ^ o) a) (w .0) (w .1))
-    | no q ↦ inl (q, call-refused h n t m (Call.Block OnBlock.GetAt a o) q)
+    | no q ↦ inl (q, call-refused h n t m (Call.OnBlock BlockCall.GetAt a o) q)
   ]
     where
       took : getAt h n t m a o .answer .code ≡ 0 → (b : Bool) → getAt h n t m a o .answer ≡ pick b (got 0 a 1) (got 7 0 1) → (b ≡ true → Took h n t m (getAt h n t m a o .left) a o)
@@ -149,5 +149,5 @@ module _ {h n t : ℕ} {m : Mem} (H : Huge h) (c : Consistent h n t m) where
   unfolding called
   put-does a o = elim (ℕ-discrete (put h n t m a o .answer) 0) [
     | yes z ↦ inr (z, put-exact H c a o (put-passed h n t m a o z) .1 z)
-    | no q ↦ inl (q, call-refused h n t m (Call.Block OnBlock.Put a o) q)
+    | no q ↦ inl (q, call-refused h n t m (Call.OnBlock BlockCall.Put a o) q)
   ]

@@ -1,15 +1,13 @@
 -- A block below the huge order whose frames turn, while all frames beside it are as they were: so it was taken, or given back. Assumes nothing.
-use mathlib.Core.Path.{_≡_, sym, ap, _∙_}
+use mathlib.Core.Path.{_≡_, sym, _∙_}
 use mathlib.Core.Bool.{true, false, and-true, and-false, or-true, or-false}
-use mathlib.Core.Logic.{inl, inr}
 use Prim.Native.Nat.{ℕ, _+_, _%_, _^_, _≤_, _<_}
 use native.Mathlib.Decide.{decLt, ℕ-discrete}
 use native.Mathlib.Omega.{arith}
-use lib.Pow.{pow-pos}
 use Rattle.base.specs.Walk.{all}
 use Rattle.base.specs.Bits.{bitIs}
-use Rattle.rules.specs.Numbers.{mark, hugeOf}
-use Rattle.rules.specs.State.{Mem, entryOf}
+use Rattle.rules.specs.Numbers.{hugeOf}
+use Rattle.rules.specs.State.{Mem}
 use Rattle.rules.proofs.Present.{block-huge}
 use Rattle.rules.specs.Consistent.{free, held}
 use Rattle.rules.proofs.Effects.{Took, Gave, Beside, by-place, in-block, out-of-block}
@@ -31,16 +29,14 @@ module _ {h n t : ℕ} {m left : Mem} (f o : ℕ) (low : o < h) (even : f % 2 ^ 
     | no k ↦ r .other g k
   ]
 
-  pub took : (entryOf (m .entries) (hugeOf h f) ≡ mark → ⊥) → all (free h n m) (2 ^ o) f ≡ true
+  pub took : all (free h n m) (2 ^ o) f ≡ true
       → ((g : ℕ) → f ≤ g → g < f + 2 ^ o → bitIs false (left .rows) g ≡ false) → Took h n t m left f o
-  took q was set = record {
+  took was set = record {
     consistent = r .consistent;
     taken = record {
       was = was;
       is = λ g. by-place f o g (λ l u. rw (in-block f o g l u) (left-in g l u ∙ set g l u ∙ sym (and-false (free h n m g)))) (λ s. rw (out-of-block f o g s) (left-beside g s ∙ sym (and-true (free h n m g))));
     };
-    new-mark = λ y e. inl (r .new-mark y e);
-    old-mark = λ y e. r .old-mark y (λ k. q (ap (entryOf (m .entries)) (sym k) ∙ e)) e;
   }
 
   pub gave : all (held h n m) (2 ^ o) f ≡ true → ((g : ℕ) → f ≤ g → g < f + 2 ^ o → bitIs false (left .rows) g ≡ true) → Gave h n t m left f o
@@ -50,9 +46,4 @@ module _ {h n t : ℕ} {m left : Mem} (f o : ℕ) (low : o < h) (even : f % 2 ^ 
       was = was;
       is = λ g. by-place f o g (λ l u. rw (in-block f o g l u) (left-in g l u ∙ clear g l u ∙ sym (or-true (free h n m g)))) (λ s. rw (out-of-block f o g s) (left-beside g s ∙ sym (or-false (free h n m g))));
     };
-    new-mark = r .new-mark;
-    old-mark = λ y e. elim (ℕ-discrete y (hugeOf h f)) [
-      | yes k ↦ inr (f, sym k, in-block f o f (omega arith) (omega (arith, pow-pos o)))
-      | no k ↦ inl (r .old-mark y k e)
-    ];
   }

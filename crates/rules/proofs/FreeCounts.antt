@@ -7,7 +7,6 @@ use native.Mathlib.Nat.{mul-comm, mul-pos, mul-le-mul-right, zero-mul}
 use native.Mathlib.Omega.{arith}
 use lib.Dec.{eqb, ltb}
 use lib.Pow.{pow-pos}
-use lib.ListN.{length}
 use borrow.Author.Tests.{lt-ltb}
 use Rattle.base.specs.Walk.{pick, count}
 use Rattle.base.specs.Bits.{bitIs}
@@ -117,7 +116,7 @@ unfolding statsAt atOrder
 stats-at-is-exact h n t m f o H c e =
     let x = hugeOf h f in
     let y = treeOf h t f in
-    let below = framed h n t (length (m .rows)) (length (m .entries)) f e .below in
+    let below = framed h n t _ f e .below in
     let entry = entries-cover h n t f (some-tree H c) below in
     let tree = tree-covers h n t f (some-tree H c) below in
     rw (

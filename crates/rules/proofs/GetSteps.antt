@@ -10,13 +10,13 @@ use lib.Dec.{lit<}
 use lib.ListN.{set}
 use borrow.Author.Tests.{lt-ltb, le-ltb}
 use Rattle.base.specs.Code.{out}
-use Rattle.base.specs.Size.{Huge, rowsOf}
+use Rattle.base.specs.Size.{Huge, rowsPer}
 use Rattle.base.specs.Bits.{withBits}
 use Rattle.base.proofs.Walks.{FirstAt, first-found, first-none}
 use Rattle.base.proofs.Sizes.{mask-mod}
 use Rattle.rules.specs.Numbers.{hugeOf, isTree, treeLog}
 use Rattle.rules.specs.Refusals.{Started, Blocked}
-use Rattle.rules.specs.State.{Mem, mem, entryOf}
+use Rattle.rules.specs.State.{Mem, mem, entryOf, Lengths}
 use Rattle.rules.specs.Get.{got, visit, stops, entryAt, visitsPassed, ended, getSmall}
 use Rattle.rules.proofs.Numbers.{huge-of-row, tree-pow, tree-pos, tree-high}
 use Rattle.rules.proofs.Lent.{start-tree}
@@ -47,36 +47,36 @@ module _ (t x : ℕ) (tree : isTree t ≡ true) where
 
 -- ---- what a get without a frame may touch
 
-module _ {h n t rl el row o : ℕ} (H : Huge h) (s : Started h n t rl el row o) where
+module _ {h n t : ℕ} {len : Lengths} {row o : ℕ} (H : Huge h) (s : Started h n t len row o) where
   -- the huge frame of the start row, as `row_huge` says it
-  pub start-huge : hugeOf h (row * 64) ≡ row / rowsOf h
+  pub start-huge : hugeOf h (row * 64) ≡ row / rowsPer h
   start-huge = rw (huge-of-row (row * 64) H, mul-div-cancel row (lit< tt))
 
   -- which is far below a word's end
-  pub start-low : row / rowsOf h < 16384
-  start-low = omega (arith, s .begins, s .sized .most, div-le-self row (rowsOf h))
+  pub start-low : row / rowsPer h < 16384
+  start-low = omega (arith, s .begins, s .sized .most, div-le-self row (rowsPer h))
 
   -- the entry of each visit is lent
-  pub entry-lent : (j : ℕ) → entryAt t (row / rowsOf h) j < el
-  entry-lent j = omega (arith, entry-in t (row / rowsOf h) (s .sized .tree) j, start-tree H s)
+  pub entry-lent : (j : ℕ) → entryAt t (row / rowsPer h) j < len .entries
+  entry-lent j = omega (arith, entry-in t (row / rowsPer h) (s .sized .tree) j, start-tree H s)
 
   -- and far below a word's end
-  pub entry-low : (j : ℕ) → entryAt t (row / rowsOf h) j < 1048576
-  entry-low j = omega (arith, entry-near t (row / rowsOf h) (s .sized .tree) j, start-low)
+  pub entry-low : (j : ℕ) → entryAt t (row / rowsPer h) j < 1048576
+  entry-low j = omega (arith, entry-near t (row / rowsPer h) (s .sized .tree) j, start-low)
 
   -- a block that a visit answers is one that a call may name
-  pub found-block : {x f : ℕ} {rs es : List ℕ} → Free h n rs es o x f → Blocked h n t rl el f o
+  pub found-block : {x f : ℕ} {rs es : List ℕ} → Free h n rs es o x f → Blocked h n t len f o
   found-block free = record { sized = s .sized; top = s .top; ends = free .ends; aligned = free .aligned }
 
 -- ---- what a get answers
 
 -- whether the visit after j others ends a get
 abbrev pub stopsAt : ℕ → ℕ → ℕ → Mem → ℕ → ℕ → ℕ → Bool
-stopsAt h n t m row o j = stops (visit h n m row o (entryAt t (row / rowsOf h) j))
+stopsAt h n t m row o j = stops (visit h n m row o (entryAt t (row / rowsPer h) j))
 
 module _ (h n t : ℕ) (m : Mem) (row o j : ℕ) (at : FirstAt (stopsAt h n t m row o) t j) where
   -- the visit after j others ends it
-  pub get-ended : j < t → (v : Visit) → v ≡ visit h n m row o (entryAt t (row / rowsOf h) j) → stops v ≡ true → ended h m o (j + 1) v ≡ getSmall h n t m row o
+  pub get-ended : j < t → (v : Visit) → v ≡ visit h n m row o (entryAt t (row / rowsPer h) j) → stops v ≡ true → ended h m o (j + 1) v ≡ getSmall h n t m row o
   unfolding getSmall visitsPassed
   get-ended l v e s = rw (← first-found (stopsAt h n t m row o) t j at l (ap stops (sym e) ∙ s), lt-ltb j t l, ← e)
 
@@ -87,7 +87,7 @@ module _ (h n t : ℕ) (m : Mem) (row o j : ℕ) (at : FirstAt (stopsAt h n t m 
 
 -- the visit after j others answers block f, whose bits are then set, and the entry lowered
 pub get-taken : (h n t : ℕ) (rs es : List ℕ) (row o j : ℕ) → FirstAt (stopsAt h n t (mem rs es) row o) t j → j < t
-    → {x : ℕ} (f : ℕ) → x ≡ entryAt t (row / rowsOf h) j → Place f ≡ visit h n (mem rs es) row o x → Free h n rs es o x f
+    → {x : ℕ} (f : ℕ) → x ≡ entryAt t (row / rowsPer h) j → Place f ≡ visit h n (mem rs es) row o x → Free h n rs es o x f
     → {entry : ℕ} {left : List ℕ} → left ≡ withBits true rs f (f + 2 ^ o) → entry ≡ entryOf es x - 2 ^ o
     → out (got 0 f (j + 1)) (mem left (set es x entry)) ≡ getSmall h n t (mem rs es) row o
 get-taken h n t rs es row o j at l f x-is e free left-is entry-is =

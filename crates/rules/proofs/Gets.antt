@@ -7,12 +7,11 @@ use native.Mathlib.Decide.{decLt}
 use native.Mathlib.Nat.{div-one, mul-one}
 use native.Mathlib.Omega.{arith}
 use lib.Dec.{leb}
-use lib.ListN.{length}
 use lib.Pow.{pow-pos}
 use borrow.Author.Tests.{eq-eqb, lt-ltb, le-ltb}
 use Rattle.base.specs.Walk.{pick, all}
 use Rattle.base.specs.Code.{Out, out}
-use Rattle.base.specs.Size.{Huge, rowsOf}
+use Rattle.base.specs.Size.{Huge, rowsPer}
 use Rattle.base.proofs.Rests.{digits-less}
 use Rattle.base.proofs.Walks.{first-hit, first-before}
 use Rattle.rules.specs.declared.Got.{Got}
@@ -47,29 +46,29 @@ module _ {h n t : ℕ} {m : Mem} (H : Huge h) (c : Consistent h n t m) (row o : 
   one : groupOf h o ≡ 1
   one = let z : o - h ≡ 0 = omega arith in rw z
 
-  round-is : (f : ℕ) → round h t row o f ≡ stepsTo t (row / rowsOf h) (hugeOf h f)
+  round-is : (f : ℕ) → round h t row o f ≡ stepsTo t (row / rowsPer h) (hugeOf h f)
   round-is f = rw (one, div-one, mul-one)
 
   -- the tree's entries are needed
-  entry-needed : (j : ℕ) → entryAt t (row / rowsOf h) j < entriesNeeded h n t
-  entry-needed = entry-lent H (started-exactly (started h n t (length (m .rows)) (length (m .entries)) row o passes))
+  entry-needed : (j : ℕ) → entryAt t (row / rowsPer h) j < entriesNeeded h n t
+  entry-needed = entry-lent H (started-exactly (started h n t _ row o passes))
 
   -- a block is in the start row's tree where its huge frame is
-  tree-ring : (f : ℕ) → treeOf h t f ≡ treeOf h t (row * 64) → hugeOf h f / t ≡ row / rowsOf h / t
+  tree-ring : (f : ℕ) → treeOf h t f ≡ treeOf h t (row * 64) → hugeOf h f / t ≡ row / rowsPer h / t
   tree-ring f e = sym (tree-of-huge h t f) ∙ e ∙ tree-by-rows t row H
 
-  ring-tree : (f : ℕ) → hugeOf h f / t ≡ row / rowsOf h / t → treeOf h t f ≡ treeOf h t (row * 64)
+  ring-tree : (f : ℕ) → hugeOf h f / t ≡ row / rowsPer h / t → treeOf h t f ≡ treeOf h t (row * 64)
   ring-tree f e = tree-of-huge h t f ∙ e ∙ sym (tree-by-rows t row H)
 
   -- a block of a huge frame that is passed is not free
   passed-held : (f : ℕ) → Candidate h n t row o f → round h t row o f < visitsPassed h n t m row o → all (free h n m) (2 ^ o) f ≡ false
   unfolding visitsPassed
   passed-held f b l =
-      let j = stepsTo t (row / rowsOf h) (hugeOf h f) in
+      let j = stepsTo t (row / rowsPer h) (hugeOf h f) in
       let before : stopsAt h n t m row o j ≡ false = first-before (stopsAt h n t m row o) t 0 j (omega arith) (rw (round-is f) at l) in
-      let y = entryAt t (row / rowsOf h) j in
+      let y = entryAt t (row / rowsPer h) j in
       says-none h n m row o y (visit h n m row o y) (visit-says H c row o low y (entry-needed j)) before f
-      (record { huge = sym (steps-visited t (row / rowsOf h) pos (hugeOf h f) (tree-ring f (b .tree))); aligned = b .aligned; ends = b .ends })
+      (record { huge = sym (steps-visited t (row / rowsPer h) pos (hugeOf h f) (tree-ring f (b .tree))); aligned = b .aligned; ends = b .ends })
 
   -- past the refusals
   get-is : get h n t m row o ≡ getSmall h n t m row o
@@ -86,7 +85,7 @@ module _ {h n t : ℕ} {m : Mem} (H : Huge h) (c : Consistent h n t m) (row o : 
     get-missed : Missed h n t m row o
     get-missed = record {
       answer = none-answers ∙ rw (one, div-one);
-      none = λ f b. passed-held f b (omega (arith, steps-low t (row / rowsOf h / groupOf h o * groupOf h o) pos (hugeOf h f)));
+      none = λ f b. passed-held f b (omega (arith, steps-low t (row / rowsPer h / groupOf h o * groupOf h o) pos (hugeOf h f)));
     }
 
   -- ---- one does not
@@ -96,7 +95,7 @@ module _ {h n t : ℕ} {m : Mem} (H : Huge h) (c : Consistent h n t m) (row o : 
     j = visitsPassed h n t m row o
 
     abbrev x : ℕ
-    x = entryAt t (row / rowsOf h) j
+    x = entryAt t (row / rowsPer h) j
 
     -- the get answers what it says
     one-answers : get h n t m row o ≡ ended h m o (j + 1) (visit h n m row o x)
@@ -107,11 +106,11 @@ module _ {h n t : ℕ} {m : Mem} (H : Huge h) (c : Consistent h n t m) (row o : 
     unfolding visitsPassed
     one-stops = first-hit (stopsAt h n t m row o) t 0 (omega arith)
 
-    x-ring : x / t ≡ row / rowsOf h / t
-    x-ring = visited-ring t (row / rowsOf h) pos j
+    x-ring : x / t ≡ row / rowsPer h / t
+    x-ring = visited-ring t (row / rowsPer h) pos j
 
-    x-steps : stepsTo t (row / rowsOf h) x ≡ j
-    x-steps = visited-steps t (row / rowsOf h) pos (visitsPassed h n t m row o) l
+    x-steps : stepsTo t (row / rowsPer h) x ≡ j
+    x-steps = visited-steps t (row / rowsPer h) pos (visitsPassed h n t m row o) l
 
     -- it answers block a
     module _ (a : ℕ) (s : FirstOf h n m row o x a) where
@@ -119,7 +118,7 @@ module _ {h n t : ℕ} {m : Mem} (H : Huge h) (c : Consistent h n t m) (row o : 
       in-tree = record { aligned = s .block .aligned; tree = ring-tree a (ap (λ (y : ℕ). y / t) (s .block .huge) ∙ x-ring); ends = s .block .ends }
 
       a-round : round h t row o a ≡ j
-      a-round = round-is a ∙ ap (stepsTo t (row / rowsOf h)) (s .block .huge) ∙ x-steps
+      a-round = round-is a ∙ ap (stepsTo t (row / rowsPer h)) (s .block .huge) ∙ x-steps
 
       -- no block that comes before it is free
       none-before : (f : ℕ) → Candidate h n t row o f → rank h t row o f < rank h t row o a → all (free h n m) (2 ^ o) f ≡ false
@@ -127,7 +126,7 @@ module _ {h n t : ℕ} {m : Mem} (H : Huge h) (c : Consistent h n t m) (row o : 
           (λ before. passed-held f b (rw a-round at before))
           (λ both.
           let same = sym (round-is f) ∙ both .0 ∙ a-round ∙ sym x-steps in
-          s .first f (record { huge = steps-same t (row / rowsOf h) pos (hugeOf h f) x (tree-ring f (b .tree) ∙ sym x-ring) same; aligned = b .aligned; ends = b .ends }) (both .1))
+          s .first f (record { huge = steps-same t (row / rowsPer h) pos (hugeOf h f) x (tree-ring f (b .tree) ∙ sym x-ring) same; aligned = b .aligned; ends = b .ends }) (both .1))
           (digits-less (2 ^ h) (round h t row o f) (turnIn h row o f) (round h t row o a) (turnIn h row o a) (steps-low (2 ^ h) (pick (leb o 6) (row * 64) 0) (pow-pos h) a) less)
 
       get-first : Took h n t m (taken h m a o) a o → get h n t m row o ≡ out (got 0 a (j + 1)) (taken h m a o)

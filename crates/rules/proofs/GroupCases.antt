@@ -6,7 +6,7 @@ use Prim.Native.Nat.{ℕ, _+_, _*_, _/_, _^_, _≤_, _<_}
 use borrow.Author.Tests.{lt-ltb, le-ltb, le-leb, lt-leb}
 use Rattle.base.specs.Walk.{first, written}
 use Rattle.base.specs.Code.{out}
-use Rattle.base.specs.Size.{rowsOf}
+use Rattle.base.specs.Size.{rowsPer}
 use Rattle.rules.specs.Numbers.{mark, groupOf}
 use Rattle.rules.specs.Get.{got, groupAt, groupsPassed, takeGroup, getHuge, getHugeAt}
 use Rattle.rules.specs.declared.Got.{Got}
@@ -29,7 +29,7 @@ module _ (h n : ℕ) (es : List ℕ) (at g probes : ℕ) where
 
 -- ---- a search of c groups that has passed j of them
 
-module _ (h n t : ℕ) (es : List ℕ) (row o g x c j : ℕ) (g-is : g ≡ groupOf h o) (x-is : x ≡ row / rowsOf h) (c-is : t / g ≡ c)
+module _ (h n t : ℕ) (es : List ℕ) (row o g x c j : ℕ) (g-is : g ≡ groupOf h o) (x-is : x ≡ row / rowsPer h) (c-is : t / g ≡ c)
     (j-is : j ≡ first (λ i. entriesAre (2 ^ h) es (groupAt t g x i) g) c 0) where
   -- one that found a free group has the answer of that group
   pub get-found : j < c → {answer : Got} {left : List ℕ} → out answer left ≡ takeGroup h n es (groupAt t g x j) g (j + 1) → out answer left ≡ getHuge h n t es row o

@@ -6,9 +6,10 @@ use native.Mathlib.Omega.{arith}
 use lib.Arith.{digits-div, digits-mod}
 use lib.Pow.{pow-pos, field}
 use borrow.Author.Tests.{ltb-true}
-use Rattle.base.specs.Size.{Huge, rowsOf}
+use Rattle.base.specs.Size.{Huge, rowsPer}
 use Rattle.base.proofs.Sizes.{frames-many, pow-divides}
 use Rattle.rules.specs.Numbers.{hugeOf, treeOf, treeLog, topOrder, groupOf}
+use Rattle.rules.specs.State.{Lengths}
 use Rattle.rules.specs.Refusals.{Sized, Blocked, Started}
 use Rattle.rules.proofs.Numbers.{tree-pow, tree-high, huge-by-rows}
 use Rattle.rules.proofs.Lent.{block-entries, block-in-tree, start-tree}
@@ -16,7 +17,7 @@ use Rattle.rules.specs.Get.{groupAt}
 use Rattle.rules.proofs.Wraps.{step-next, step-first, step-ends, step-rest}
 
 -- an order that passed the refusals is less than ten above the huge order
-pub order-low : {h n t rl el : ℕ} (o : ℕ) → Sized h n t rl el → o ≤ topOrder h t → o - h < 10
+pub order-low : {h n t : ℕ} {len : Lengths} (o : ℕ) → Sized h n t len → o ≤ topOrder h t → o - h < 10
 order-low {t = t} o s l = omega (arith, ltb-true (treeLog t) 10 (s .tree))
 
 -- ---- blocks from the huge order up and their groups
@@ -38,11 +39,11 @@ group-block h at o l e =
     rw p (mul-mod-left (at / g) (2 ^ o))
 
 -- the entries of a block that passed the refusals are lent
-pub group-lent : {h n t rl el f o at g : ℕ} → Huge h → h ≤ o → Blocked h n t rl el f o → at ≡ hugeOf h f → g ≡ groupOf h o → at + g ≤ el
+pub group-lent : {h n t : ℕ} {len : Lengths} {f o at g : ℕ} → Huge h → h ≤ o → Blocked h n t len f o → at ≡ hugeOf h f → g ≡ groupOf h o → at + g ≤ len .entries
 group-lent H l b at-is g-is = rw (at-is, g-is) (block-entries H b l)
 
 -- they lie in the tree of its first
-pub group-in-tree : {h n t rl el f o : ℕ} → Blocked h n t rl el f o → h ≤ o → hugeOf h f + groupOf h o ≤ treeOf h t f * t + t
+pub group-in-tree : {h n t : ℕ} {len : Lengths} {f o : ℕ} → Blocked h n t len f o → h ≤ o → hugeOf h f + groupOf h o ≤ treeOf h t f * t + t
 group-in-tree {h} {t = t} {f = f} {o} b l =
     let all : (treeOf h t f + 1) * (2 ^ h * t) ≡ (treeOf h t f * t + t) * 2 ^ h = swap (treeOf h t f) (2 ^ h) t in
     let frames : (hugeOf h f + groupOf h o) * 2 ^ h ≤ (treeOf h t f * t + t) * 2 ^ h = omega (arith, group-frames h (hugeOf h f) o l, block-in-tree b, div-mul-le-self f (2 ^ h)) in
@@ -67,7 +68,7 @@ pub record Tree (t g x first c lent : ℕ) : Type 0 where
   pub low : first + t ≤ 1048576
 
 -- the tree of a start row that passed the refusals, as the code computes it: k is the logarithm of its size, x a huge frame of it and y its number
-module _ {h n t rl el row o : ℕ} (H : Huge h) (s : Started h n t rl el row o) (k x y first : ℕ) (k-is : k ≡ treeLog t) (x-is : x ≡ hugeOf h (row * 64))
+module _ {h n t : ℕ} {len : Lengths} {row o : ℕ} (H : Huge h) (s : Started h n t len row o) (k x y first : ℕ) (k-is : k ≡ treeLog t) (x-is : x ≡ hugeOf h (row * 64))
     (y-is : y ≡ x / 2 ^ k) (first-is : first ≡ y * 2 ^ k) where
   -- k tells its size
   t-is : 2 ^ k ≡ t
@@ -84,7 +85,7 @@ module _ {h n t rl el row o : ℕ} (H : Huge h) (s : Started h n t rl el row o) 
       omega (arith, begins, div-mul-le-self x t, tree-high t (s .sized .tree))
 
   -- from the huge order on it has its groups
-  pub tree-groups : h ≤ o → (g c : ℕ) → g ≡ groupOf h o → c ≡ 2 ^ (h + k - o) → Tree t g x first c el
+  pub tree-groups : h ≤ o → (g c : ℕ) → g ≡ groupOf h o → c ≡ 2 ^ (h + k - o) → Tree t g x first c (len .entries)
   tree-groups l g c g-is c-is =
       let e : h + k - o ≡ k - (o - h) = omega (arith, s .top) in
       record {
@@ -160,8 +161,8 @@ module _ {t g x first c lent : ℕ} (T : Tree t g x first c lent) where
         omega (arith, rw one-more at e)
 
 -- the groups of the tree of a start row that passed the refusals, from the huge order on
-pub start-groups : {h n t rl el row o : ℕ} → Huge h → Started h n t rl el row o → h ≤ o
-    → Tree t (groupOf h o) (row / rowsOf h) (row / rowsOf h / t * t) (2 ^ (h + treeLog t - o)) el
+pub start-groups : {h n t : ℕ} {len : Lengths} {row o : ℕ} → Huge h → Started h n t len row o → h ≤ o
+    → Tree t (groupOf h o) (row / rowsPer h) (row / rowsPer h / t * t) (2 ^ (h + treeLog t - o)) (len .entries)
 start-groups {h} {t = t} {row = row} {o} H s l =
     let size : 2 ^ treeLog t ≡ t = tree-pow t (s .sized .tree) in
-    tree-groups H s (treeLog t) (row / rowsOf h) (row / rowsOf h / t) _ refl (sym (huge-by-rows row H)) (rw size) (rw size) l (groupOf h o) _ refl refl
+    tree-groups H s (treeLog t) (row / rowsPer h) (row / rowsPer h / t) _ refl (sym (huge-by-rows row H)) (rw size) (rw size) l (groupOf h o) _ refl refl

@@ -11,7 +11,7 @@ use lib.Pow.{pow-pos}
 use Rattle.base.specs.Walk.{written}
 use Rattle.base.proofs.Written.{written-in, written-before, written-beyond, length-written}
 use Rattle.rules.specs.Numbers.{hugeOf, groupOf}
-use Rattle.rules.specs.State.{Mem, mem, entryOf}
+use Rattle.rules.specs.State.{Mem, mem, entryOf, withEntries}
 use Rattle.rules.proofs.Numbers.{tree-pos}
 use Rattle.rules.proofs.Present.{present-entry}
 use Rattle.rules.proofs.GroupSteps.{group-frames}
@@ -69,7 +69,7 @@ module _ {h n t : ℕ} {m : Mem} (c : Consistent h n t m) (at o : ℕ) (l : h �
 
   module _ (v : ℕ) where
     abbrev pub groupWritten : Mem
-    groupWritten = mem (m .rows) (written (λ i. v) (m .entries) at (groupOf h o))
+    groupWritten = withEntries m (written (λ i. v) (m .entries) at (groupOf h o))
 
     pub entry-within : (x : ℕ) → Within h at o l x → entryOf (groupWritten .entries) x ≡ v
     entry-within x w =

@@ -4,11 +4,8 @@ use mathlib.Core.Bool.{Bool, true, false, not, _&&_, and-true, and-false, or-tru
 use mathlib.Core.List.{List}
 use mathlib.Core.Logic.{inl, inr, ⊎-elim}
 use Prim.Native.Nat.{ℕ, _+_, _*_, _^_, _≤_}
-use native.Mathlib.Nat.{mul-div-cancel}
 use native.Mathlib.Omega.{arith}
 use lib.Dec.{eqb}
-use lib.ListN.{length}
-use lib.Pow.{pow-pos}
 use borrow.Author.Tests.{eqb-true}
 use Rattle.base.specs.Walk.{pick, all, written}
 use Rattle.base.specs.Bits.{bitIs}
@@ -21,7 +18,7 @@ use Rattle.base.proofs.Walks.{all-each, all-of, count-full, count-of, pick-of}
 use Rattle.rules.specs.Numbers.{mark, hugeOf, groupOf}
 use Rattle.rules.specs.declared.Got.{Got}
 use Rattle.rules.specs.Refusals.{Blocked}
-use Rattle.rules.specs.State.{Mem, mem, entryOf, entriesAre}
+use Rattle.rules.specs.State.{Mem, entryOf, entriesAre, lengthsOf, withEntries}
 use Rattle.rules.specs.Get.{got, getHugeAt}
 use Rattle.rules.proofs.Entries.{whole-not-mark}
 use Rattle.rules.proofs.Numbers.{block-begins}
@@ -34,7 +31,7 @@ use Rattle.rules.proofs.Frees.{no-mark, is-free, held-mark}
 use Rattle.rules.proofs.Blocks.{is-counted, is-marked}
 use Rattle.rules.proofs.Effects.{Took, Gave}
 use Rattle.rules.proofs.HugeFrames.{groups-free}
-use Rattle.rules.proofs.GroupWrites.{Within, within-or-beside, within-block, in-group, beside-block, within-below, within-present, groupWritten, entry-within, entry-beside, free-beside, group-consistent}
+use Rattle.rules.proofs.GroupWrites.{Within, within-or-beside, within-block, in-group, beside-block, within-below, within-present, groupWritten, entry-within, free-beside, group-consistent}
 
 -- ---- a group that ends at or before N
 
@@ -61,7 +58,7 @@ module _ {h n t : ℕ} {m : Mem} (H : Huge h) (c : Consistent h n t m) (at o : �
           clear = λ f a b. count-full (bitIs false (m .rows)) (2 ^ h) (x * 2 ^ h) (sym (k .counts) ∙ full) f a (omega arith);
         }
 
-    pub group-taken : Took h n t m (mem (m .rows) (written (λ i. mark) (m .entries) at (groupOf h o))) (at * 2 ^ h) o
+    pub group-taken : Took h n t m (withEntries m (written (λ i. mark) (m .entries) at (groupOf h o))) (at * 2 ^ h) o
     group-taken = record {
       consistent = group-consistent c at o l ends mark (omega arith) (λ x w. inl (now-marked x w));
       taken = record {
@@ -71,11 +68,6 @@ module _ {h n t : ℕ} {m : Mem} (H : Huge h) (c : Consistent h n t m) (at o : �
             (λ b. rw (beside-block h at o l f b) (free-beside c at o l ends mark f b ∙ sym (and-true (free h n m f))))
             (within-or-beside h at o l (hugeOf h f));
       };
-      new-mark = λ x k. ⊎-elim
-          (λ w. inr (λ f q. within-block h at o l f (subst (Within h at o l) (sym q) w)))
-          (λ b. inl (sym (entry-beside c at o l ends mark x b) ∙ k))
-          (within-or-beside h at o l x);
-      old-mark = λ x k. ⊎-elim (now-mark x) (λ b. entry-beside c at o l ends mark x b ∙ k) (within-or-beside h at o l x);
     }
 
   -- held whole, it is given back
@@ -104,7 +96,7 @@ module _ {h n t : ℕ} {m : Mem} (H : Huge h) (c : Consistent h n t m) (at o : �
         let own = huge-ends h f (hugeOf h f) refl in
         is-free h n given f (omega (arith, own .1, k .below)) (k .clear f (own .0) (own .1)) (no-mark H (now-counted (hugeOf h f) w))
 
-    pub group-given : Gave h n t m (mem (m .rows) (written (λ i. 2 ^ h) (m .entries) at (groupOf h o))) (at * 2 ^ h) o
+    pub group-given : Gave h n t m (withEntries m (written (λ i. 2 ^ h) (m .entries) at (groupOf h o))) (at * 2 ^ h) o
     group-given = record {
       consistent = group-consistent c at o l ends (2 ^ h) (omega (arith, frames-fit H)) (λ x w. inr (now-counted x w));
       given = record {
@@ -114,20 +106,11 @@ module _ {h n t : ℕ} {m : Mem} (H : Huge h) (c : Consistent h n t m) (at o : �
             (λ b. rw (beside-block h at o l f b) (free-beside c at o l ends (2 ^ h) f b ∙ sym (or-false (free h n m f))))
             (within-or-beside h at o l (hugeOf h f));
       };
-      new-mark = λ x k. ⊎-elim
-          (λ w. absurd (whole-not-mark H (now-whole x w) k))
-          (λ b. sym (entry-beside c at o l ends (2 ^ h) x b) ∙ k)
-          (within-or-beside h at o l x);
-      old-mark = λ x k. ⊎-elim
-          (λ w. let own : hugeOf h (x * 2 ^ h) ≡ x = mul-div-cancel x (pow-pos h) in
-          inr (x * 2 ^ h, own, within-block h at o l (x * 2 ^ h) (subst (Within h at o l) (sym own) w)))
-          (λ b. inl (entry-beside c at o l ends (2 ^ h) x b ∙ k))
-          (within-or-beside h at o l x);
     }
 
 -- ---- the calls that choose a group by its frame
 
-module _ {h n t : ℕ} {m : Mem} (H : Huge h) (c : Consistent h n t m) (f o : ℕ) (l : h ≤ o) (b : Blocked h n t (length (m .rows)) (length (m .entries)) f o) where
+module _ {h n t : ℕ} {m : Mem} (H : Huge h) (c : Consistent h n t m) (f o : ℕ) (l : h ≤ o) (b : Blocked h n t (lengthsOf m) f o) where
   begins : hugeOf h f * 2 ^ h ≡ f
   begins = block-begins h f o l (b .aligned)
 
@@ -144,14 +127,14 @@ module _ {h n t : ℕ} {m : Mem} (H : Huge h) (c : Consistent h n t m) (f o : �
   block-free : are (2 ^ h) ≡ all (free h n m) (2 ^ o) f
   block-free = sym (groups-free H c (hugeOf h f) o l inside) ∙ ap (all (free h n m) (2 ^ o)) begins
 
-  block-taken : are (2 ^ h) ≡ true → Took h n t m (mem (m .rows) (become mark)) f o
-  block-taken e = subst (λ (a : ℕ). Took h n t m (mem (m .rows) (become mark)) a o) begins (group-taken H c (hugeOf h f) o l inside e)
+  block-taken : are (2 ^ h) ≡ true → Took h n t m (withEntries m (become mark)) f o
+  block-taken e = subst (λ (a : ℕ). Took h n t m (withEntries m (become mark)) a o) begins (group-taken H c (hugeOf h f) o l inside e)
 
-  block-given : are mark ≡ true → Gave h n t m (mem (m .rows) (become (2 ^ h))) f o
-  block-given e = subst (λ (a : ℕ). Gave h n t m (mem (m .rows) (become (2 ^ h))) a o) begins (group-given H c (hugeOf h f) o l inside e)
+  block-given : are mark ≡ true → Gave h n t m (withEntries m (become (2 ^ h))) f o
+  block-given e = subst (λ (a : ℕ). Gave h n t m (withEntries m (become (2 ^ h))) a o) begins (group-given H c (hugeOf h f) o l inside e)
 
   pub get-huge-at-exact : (getHugeAt h (m .entries) f o .answer ≡ pick (all (free h n m) (2 ^ o) f) (got 0 f 1) (got 7 0 1))
-      × ((all (free h n m) (2 ^ o) f ≡ true → Took h n t m (mem (m .rows) (getHugeAt h (m .entries) f o .left)) f o)
+      × ((all (free h n m) (2 ^ o) f ≡ true → Took h n t m (withEntries m (getHugeAt h (m .entries) f o .left)) f o)
       × (all (free h n m) (2 ^ o) f ≡ false → getHugeAt h (m .entries) f o .left ≡ m .entries))
   unfolding getHugeAt
   get-huge-at-exact = (
@@ -161,7 +144,7 @@ module _ {h n t : ℕ} {m : Mem} (H : Huge h) (c : Consistent h n t m) (f o : �
   )
 
   pub put-huge-exact : (putHuge h (m .entries) f o .answer ≡ unless (all (held h n m) (2 ^ o) f && entriesAre mark (m .entries) (hugeOf h f) (groupOf h o)) 7)
-      × (putHuge h (m .entries) f o .answer ≡ 0 → Gave h n t m (mem (m .rows) (putHuge h (m .entries) f o .left)) f o)
+      × (putHuge h (m .entries) f o .answer ≡ 0 → Gave h n t m (withEntries m (putHuge h (m .entries) f o .left)) f o)
   unfolding putHuge
   put-huge-exact =
       let answer = pick-of (λ (r : Out ℕ (List ℕ)). r .answer) (are mark) (out 0 (become (2 ^ h))) (out 7 (m .entries)) in (

@@ -7,17 +7,16 @@ use native.Mathlib.Decide.{decLt}
 use native.Mathlib.Nat.{mul-div-cancel, div-lt-iff-lt-mul, lt-of-mul-lt-mul-right}
 use native.Mathlib.Omega.{arith}
 use lib.Dec.{eqb, ltb}
-use lib.ListN.{length}
 use lib.Pow.{pow-pos}
 use borrow.Author.Tests.{eq-eqb, le-ltb, ltb-true}
 use Rattle.base.specs.Walk.{first, all, written}
 use Rattle.base.specs.Code.{Out, out}
-use Rattle.base.specs.Size.{Huge, rowsOf}
+use Rattle.base.specs.Size.{Huge, rowsPer}
 use Rattle.base.proofs.Tests.{both}
 use Rattle.base.proofs.Walks.{all-each, first-hit, first-before}
 use Rattle.rules.specs.declared.Got.{Got}
 use Rattle.rules.specs.Numbers.{mark, hugeOf, treeLog, entriesNeeded, groupOf}
-use Rattle.rules.specs.State.{Mem, mem, entryOf, onEntries, entriesAre}
+use Rattle.rules.specs.State.{Mem, entryOf, onEntries, entriesAre, withEntries}
 use Rattle.rules.specs.Refusals.{startRefusal}
 use Rattle.rules.specs.Get.{got, groupAt, getHuge, get}
 use Rattle.rules.proofs.Numbers.{tree-of-huge, tree-by-rows, block-begins}
@@ -42,7 +41,7 @@ module _ {h n t : ℕ} {m : Mem} (H : Huge h) (c : Consistent h n t m) (row o : 
   g = groupOf h o
 
   abbrev x : ℕ
-  x = row / rowsOf h
+  x = row / rowsPer h
 
   -- the first huge frame of the group that is visited after j others, and whether its entries say that it is free
   abbrev at : ℕ → ℕ
@@ -52,7 +51,7 @@ module _ {h n t : ℕ} {m : Mem} (H : Huge h) (c : Consistent h n t m) (row o : 
   groupFree j = entriesAre (2 ^ h) (m .entries) (at j) g
 
   tree : Tree t g x (x / t * t) (2 ^ (h + treeLog t - o)) (entriesNeeded h n t)
-  tree = start-groups H (started-exactly (started h n t (length (m .rows)) (length (m .entries)) row o begins)) l
+  tree = start-groups H (started-exactly (started h n t _ row o begins)) l
 
   -- ---- each block is a group that is visited
 
@@ -121,7 +120,7 @@ module _ {h n t : ℕ} {m : Mem} (H : Huge h) (c : Consistent h n t m) (row o : 
     hit : groupFree passed ≡ true
     hit = first-hit groupFree (t / g) 0 (omega arith)
 
-    get-is : get h n t m row o ≡ out (got 0 a (passed + 1)) (mem (m .rows) (written (λ i. mark) (m .entries) (at passed) g))
+    get-is : get h n t m row o ≡ out (got 0 a (passed + 1)) (withEntries m (written (λ i. mark) (m .entries) (at passed) g))
     get-is =
         let taken = take-done h n (m .entries) (at passed) g (passed + 1) (free-ends passed hit) in
         get-is-huge h n t m row o begins l ∙ ap (onEntries m) (sym (get-found h n t (m .entries) row o g x (t / g) passed refl refl refl refl u taken))

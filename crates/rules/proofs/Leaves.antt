@@ -1,19 +1,21 @@
 -- What a call leaves, on any memory: the memory as it was, or that with one block, group of entries or all of it rewritten. Assumes nothing.
 use mathlib.Core.Path.{_≡_, refl}
 use mathlib.Core.Bool.{true, false, _&&_}
-use mathlib.Core.List.{List}
+use mathlib.Core.List.{List, [], _∷_}
 use Prim.Native.Nat.{ℕ, _+_, _-_, _*_, _/_, _^_, _≤_, _<_}
 use lib.Dec.{eqb, leb, ltb}
-use lib.ListN.{set}
-use borrow.Author.Tests.{eqb-true, leb-true, ltb-true, ltb-false}
+use native.Mathlib.Omega.{arith}
+use lib.Pow.{pow-mono}
+use borrow.Author.Tests.{eqb-true, eqb-false, leb-true, ltb-true, ltb-false}
 use Rattle.base.specs.Walk.{written}
 use Rattle.base.specs.Code.{Out}
-use Rattle.base.specs.Size.{rowsOf}
+use Rattle.base.specs.Size.{rowsPer}
 use Rattle.base.specs.Bits.{blockIs, withBits}
+use Rattle.base.proofs.Tests.{both}
 use Rattle.base.proofs.Walks.{pick-case}
 use Rattle.rules.specs.declared.Got.{Got}
 use Rattle.rules.specs.Numbers.{mark, hugeOf, groupOf}
-use Rattle.rules.specs.State.{Mem, mem, onEntries, entryOf, freeOf, entriesAre}
+use Rattle.rules.specs.State.{Mem, onEntries, entryOf, freeOf, entriesAre, withRows, withEntries, withEntry}
 use Rattle.rules.specs.Refusals.{sizesRefusal, blockRefusal, startRefusal}
 use Rattle.rules.specs.Get.{groupAt, groupsPassed, takeGroup, getHuge, getHugeAt, taken, visit, entryAt, visitsPassed, ended, getSmall, getSmallAt, get, getAt}
 use Rattle.rules.specs.Put.{putHuge, putMarked, putCounted, putSmall, put}
@@ -21,34 +23,46 @@ use Rattle.rules.specs.declared.Visit.{Visit}
 use Rattle.rules.specs.declared.Visit.the-variants.{Pass, Damage, Place}
 use Rattle.rules.specs.declared.Recovered.{Recovered}
 use Rattle.rules.specs.Recover.{recoverable, mended, recoverAll, recover}
-use Rattle.rules.specs.Call.{OnBlock, OnFrame, OnAll, Call, called, code, left}
+use Rattle.rules.specs.Call.{BlockCall, FrameCall, AllCall, Call, gotNumbers, called, left}
 
--- a call, the code that it answers and the memory that it leaves
-pub data Leaves (h n t : ℕ) (m : Mem) : Call → ℕ → Mem → Type 0 where
-  untouched : (c : Call) (k : ℕ) → Leaves h n t m c k m
-  got-block : (row o j f : ℕ) → startRefusal h n t m row o ≡ 0 → o < h → visit h n m row o (entryAt t (row / rowsOf h) j) ≡ Place f
-      → Leaves h n t m (Call.Get row o) 0 (taken h m f o)
-  got-group : (row o j : ℕ) → startRefusal h n t m row o ≡ 0 → h ≤ o → (groupAt t (groupOf h o) (row / rowsOf h) j + groupOf h o) * 2 ^ h ≤ n
-      → Leaves h n t m (Call.Get row o) 0 (mem (m .rows) (written (λ i. mark) (m .entries) (groupAt t (groupOf h o) (row / rowsOf h) j) (groupOf h o)))
-  took-block : (f o : ℕ) → blockRefusal h n t m f o ≡ 0 → o < h → Leaves h n t m (Call.Block OnBlock.GetAt f o) 0 (taken h m f o)
+-- a call, the numbers that it answers and the memory that it leaves
+pub data Leaves (h n t : ℕ) (m : Mem) : Call → List ℕ → Mem → Type 0 where
+  refused : {c : Call} {k : ℕ} {ks : List ℕ} → (k ≡ 0 → ⊥) → Leaves h n t m c (k ∷ ks) m
+  asked-block : {f o : ℕ} {ks : List ℕ} → Leaves h n t m (Call.OnBlock BlockCall.IsFree f o) ks m
+  asked-frame : {c : FrameCall} {f : ℕ} {ks : List ℕ} → Leaves h n t m (Call.OnFrame c f) ks m
+  asked-all : {c : AllCall} {ks : List ℕ} → Leaves h n t m (Call.OnAll c) ks m
+  got-block : (row o j f p : ℕ) → startRefusal h n t m row o ≡ 0 → o < h → visit h n m row o (entryAt t (row / rowsPer h) j) ≡ Place f
+      → Leaves h n t m (Call.Get row o) (0 ∷ f ∷ p ∷ []) (taken h m f o)
+  got-group : (row o j p : ℕ) → startRefusal h n t m row o ≡ 0 → h ≤ o → (groupAt t (groupOf h o) (row / rowsPer h) j + groupOf h o) * 2 ^ h ≤ n
+      → Leaves h n t m (Call.Get row o) (0 ∷ groupAt t (groupOf h o) (row / rowsPer h) j * 2 ^ h ∷ p ∷ [])
+      (withEntries m (written (λ i. mark) (m .entries) (groupAt t (groupOf h o) (row / rowsPer h) j) (groupOf h o)))
+  took-block : (f o : ℕ) → blockRefusal h n t m f o ≡ 0 → o < h → 2 ^ o ≤ freeOf (entryOf (m .entries) (hugeOf h f))
+      → Leaves h n t m (Call.OnBlock BlockCall.GetAt f o) (0 ∷ f ∷ 1 ∷ []) (taken h m f o)
   took-group : (f o : ℕ) → blockRefusal h n t m f o ≡ 0 → h ≤ o
-      → Leaves h n t m (Call.Block OnBlock.GetAt f o) 0 (mem (m .rows) (written (λ i. mark) (m .entries) (f / 2 ^ h) (groupOf h o)))
-  gave-block : (f o v : ℕ) → blockRefusal h n t m f o ≡ 0 → o < h
-      → Leaves h n t m (Call.Block OnBlock.Put f o) 0 (mem (withBits false (m .rows) f (f + 2 ^ o)) (set (m .entries) (hugeOf h f) v))
-  gave-part : (f o v : ℕ) → blockRefusal h n t m f o ≡ 0 → o < h
-      → Leaves h n t m (Call.Block OnBlock.Put f o) 0
-      (mem (withBits false (withBits true (m .rows) (hugeOf h f * 2 ^ h) (hugeOf h f * 2 ^ h + 2 ^ h)) f (f + 2 ^ o)) (set (m .entries) (hugeOf h f) v))
+      → Leaves h n t m (Call.OnBlock BlockCall.GetAt f o) (0 ∷ f ∷ 1 ∷ []) (withEntries m (written (λ i. mark) (m .entries) (f / 2 ^ h) (groupOf h o)))
+  gave-block : (f o v : ℕ) → blockRefusal h n t m f o ≡ 0 → o < h → v ≤ 2 ^ h
+      → Leaves h n t m (Call.OnBlock BlockCall.Put f o) (0 ∷ []) (withEntry (withRows m (withBits false (m .rows) f (f + 2 ^ o))) (hugeOf h f) v)
+  gave-part : (f o v : ℕ) → blockRefusal h n t m f o ≡ 0 → o < h → v ≤ 2 ^ h
+      → Leaves h n t m (Call.OnBlock BlockCall.Put f o) (0 ∷ [])
+      (withEntry (withRows m (withBits false (withBits true (m .rows) (hugeOf h f * 2 ^ h) (hugeOf h f * 2 ^ h + 2 ^ h)) f (f + 2 ^ o))) (hugeOf h f) v)
   gave-group : (f o : ℕ) → blockRefusal h n t m f o ≡ 0 → h ≤ o
-      → Leaves h n t m (Call.Block OnBlock.Put f o) 0 (mem (m .rows) (written (λ i. 2 ^ h) (m .entries) (f / 2 ^ h) (groupOf h o)))
-  recovered : sizesRefusal h n t m ≡ 0 → Leaves h n t m (Call.All OnAll.Recover) 0 (mended h n m)
+      → Leaves h n t m (Call.OnBlock BlockCall.Put f o) (0 ∷ []) (withEntries m (written (λ i. 2 ^ h) (m .entries) (f / 2 ^ h) (groupOf h o)))
+  recovered : {ks : List ℕ} → sizesRefusal h n t m ≡ 0 → Leaves h n t m (Call.OnAll AllCall.Recover) (0 ∷ ks) (mended h n m)
+
+-- 7 and 8 are refusals
+seven : _≡_ {A = ℕ} 7 0 → ⊥
+seven q = omega arith
+
+eight : _≡_ {A = ℕ} 8 0 → ⊥
+eight q = omega arith
 
 module _ (h n t : ℕ) (m : Mem) where
   -- what a call leaves that answers a Got, or a code alone; where it touches entries alone
   abbrev LeavesGot : Call → Out Got Mem → Type 0
-  LeavesGot c x = Leaves h n t m c (x .answer .code) (x .left)
+  LeavesGot c x = Leaves h n t m c (gotNumbers (x .answer)) (x .left)
 
   abbrev LeavesCode : Call → Out ℕ Mem → Type 0
-  LeavesCode c x = Leaves h n t m c (x .answer) (x .left)
+  LeavesCode c x = Leaves h n t m c (x .answer ∷ []) (x .left)
 
   abbrev EntriesGot : Call → Out Got (List ℕ) → Type 0
   EntriesGot c x = LeavesGot c (onEntries m x)
@@ -59,28 +73,28 @@ module _ (h n t : ℕ) (m : Mem) where
   -- ---- get without a frame
 
   module _ (row o : ℕ) (s : startRefusal h n t m row o ≡ 0) where
-    ended-leaves : o < h → (j p : ℕ) (v : Visit) → visit h n m row o (entryAt t (row / rowsOf h) j) ≡ v → LeavesGot (Call.Get row o) (ended h m o p v)
-    ended-leaves l j p Pass e = untouched (Call.Get row o) 7
-    ended-leaves l j p Damage e = untouched (Call.Get row o) 8
-    ended-leaves l j p (Place f) e = got-block row o j f s l e
+    ended-leaves : o < h → (j p : ℕ) (v : Visit) → visit h n m row o (entryAt t (row / rowsPer h) j) ≡ v → LeavesGot (Call.Get row o) (ended h m o p v)
+    ended-leaves l j p Pass e = refused seven
+    ended-leaves l j p Damage e = refused eight
+    ended-leaves l j p (Place f) e = got-block row o j f p s l e
 
     small-leaves : o < h → LeavesGot (Call.Get row o) (getSmall h n t m row o)
     unfolding getSmall
     small-leaves l =
         let j = visitsPassed h n t m row o in
         pick-case (LeavesGot (Call.Get row o)) (ltb j t)
-        (λ _. ended-leaves l j (j + 1) (visit h n m row o (entryAt t (row / rowsOf h) j)) refl) (λ _. untouched (Call.Get row o) 7)
+        (λ _. ended-leaves l j (j + 1) (visit h n m row o (entryAt t (row / rowsPer h) j)) refl) (λ _. refused seven)
 
     huge-leaves : h ≤ o → EntriesGot (Call.Get row o) (getHuge h n t (m .entries) row o)
     unfolding getHuge takeGroup
     huge-leaves l =
         let g = groupOf h o in
-        let j = groupsPassed h (m .entries) t g (row / rowsOf h) in
-        let at = groupAt t g (row / rowsOf h) j in
+        let j = groupsPassed h (m .entries) t g (row / rowsPer h) in
+        let at = groupAt t g (row / rowsPer h) j in
         pick-case (EntriesGot (Call.Get row o)) (ltb j (t / g))
         (λ _. pick-case (EntriesGot (Call.Get row o)) (leb ((at + g) * 2 ^ h) n)
-        (λ e. got-group row o j s l (leb-true ((at + g) * 2 ^ h) n e)) (λ _. untouched (Call.Get row o) 8))
-        (λ _. untouched (Call.Get row o) 7)
+        (λ e. got-group row o j _ s l (leb-true ((at + g) * 2 ^ h) n e)) (λ _. refused eight))
+        (λ _. refused seven)
 
   get-leaves : (row o : ℕ) → LeavesGot (Call.Get row o) (get h n t m row o)
   unfolding get
@@ -88,79 +102,83 @@ module _ (h n t : ℕ) (m : Mem) where
       pick-case (LeavesGot (Call.Get row o)) (eqb (startRefusal h n t m row o) 0)
       (λ e. pick-case (LeavesGot (Call.Get row o)) (ltb o h)
       (λ l. small-leaves row o (eqb-true _ 0 e) (ltb-true o h l)) (λ l. huge-leaves row o (eqb-true _ 0 e) (ltb-false o h l)))
-      (λ _. untouched (Call.Get row o) (startRefusal h n t m row o))
+      (λ e. refused (eqb-false _ 0 e))
 
   -- ---- at a frame
 
   module _ (f o : ℕ) (b : blockRefusal h n t m f o ≡ 0) where
-    small-at-leaves : o < h → LeavesGot (Call.Block OnBlock.GetAt f o) (getSmallAt h m f o)
+    small-at-leaves : o < h → LeavesGot (Call.OnBlock BlockCall.GetAt f o) (getSmallAt h m f o)
     unfolding getSmallAt
     small-at-leaves l =
         let e = entryOf (m .entries) (hugeOf h f) in
-        pick-case (LeavesGot (Call.Block OnBlock.GetAt f o)) (leb (2 ^ o) (freeOf e))
-        (λ _. pick-case (LeavesGot (Call.Block OnBlock.GetAt f o)) (blockIs false (m .rows) f (2 ^ o)) (λ _. took-block f o b l)
-        (λ _. untouched (Call.Block OnBlock.GetAt f o) _))
-        (λ _. untouched (Call.Block OnBlock.GetAt f o) 7)
+        pick-case (LeavesGot (Call.OnBlock BlockCall.GetAt f o)) (leb (2 ^ o) (freeOf e))
+        (λ w. pick-case (LeavesGot (Call.OnBlock BlockCall.GetAt f o)) (blockIs false (m .rows) f (2 ^ o)) (λ _. took-block f o b l (leb-true (2 ^ o) (freeOf e) w))
+        (λ _. refused (pick-case (λ (k : ℕ). k ≡ 0 → ⊥) (leb e (2 ^ h)) (λ _. seven) (λ _. eight))))
+        (λ _. refused seven)
 
-    huge-at-leaves : h ≤ o → EntriesGot (Call.Block OnBlock.GetAt f o) (getHugeAt h (m .entries) f o)
+    huge-at-leaves : h ≤ o → EntriesGot (Call.OnBlock BlockCall.GetAt f o) (getHugeAt h (m .entries) f o)
     unfolding getHugeAt
     huge-at-leaves l =
-        pick-case (EntriesGot (Call.Block OnBlock.GetAt f o)) (entriesAre (2 ^ h) (m .entries) (f / 2 ^ h) (groupOf h o))
-        (λ _. took-group f o b l) (λ _. untouched (Call.Block OnBlock.GetAt f o) 7)
+        pick-case (EntriesGot (Call.OnBlock BlockCall.GetAt f o)) (entriesAre (2 ^ h) (m .entries) (f / 2 ^ h) (groupOf h o))
+        (λ _. took-group f o b l) (λ _. refused seven)
 
-    put-small-leaves : o < h → LeavesCode (Call.Block OnBlock.Put f o) (putSmall h m f o)
+    put-small-leaves : o < h → LeavesCode (Call.OnBlock BlockCall.Put f o) (putSmall h m f o)
     unfolding putSmall putMarked putCounted
     put-small-leaves l =
         let x = hugeOf h f in
         let e = entryOf (m .entries) x in
-        pick-case (LeavesCode (Call.Block OnBlock.Put f o)) (eqb e mark)
-        (λ _. pick-case (LeavesCode (Call.Block OnBlock.Put f o)) (blockIs false (m .rows) (x * 2 ^ h) (2 ^ h)) (λ _. gave-part f o (2 ^ o) b l) (λ _. untouched (Call.Block OnBlock.Put f o) 8))
-        (λ _. pick-case (LeavesCode (Call.Block OnBlock.Put f o)) (leb e (2 ^ h - 2 ^ o) && blockIs true (m .rows) f (2 ^ o))
-        (λ _. gave-block f o (e + 2 ^ o) b l) (λ _. untouched (Call.Block OnBlock.Put f o) 7))
+        let size : 2 ^ o ≤ 2 ^ h = pow-mono (omega arith) in
+        pick-case (LeavesCode (Call.OnBlock BlockCall.Put f o)) (eqb e mark)
+        (λ _. pick-case (LeavesCode (Call.OnBlock BlockCall.Put f o)) (blockIs false (m .rows) (x * 2 ^ h) (2 ^ h))
+        (λ _. gave-part f o (2 ^ o) b l size) (λ _. refused eight))
+        (λ _. pick-case (LeavesCode (Call.OnBlock BlockCall.Put f o)) (leb e (2 ^ h - 2 ^ o) && blockIs true (m .rows) f (2 ^ o))
+        (λ w. gave-block f o (e + 2 ^ o) b l (omega (arith, leb-true e (2 ^ h - 2 ^ o) (both _ _ w .0)))) (λ _. refused seven))
 
-    put-huge-leaves : h ≤ o → EntriesCode (Call.Block OnBlock.Put f o) (putHuge h (m .entries) f o)
+    put-huge-leaves : h ≤ o → EntriesCode (Call.OnBlock BlockCall.Put f o) (putHuge h (m .entries) f o)
     unfolding putHuge
     put-huge-leaves l =
-        pick-case (EntriesCode (Call.Block OnBlock.Put f o)) (entriesAre mark (m .entries) (f / 2 ^ h) (groupOf h o))
-        (λ _. gave-group f o b l) (λ _. untouched (Call.Block OnBlock.Put f o) 7)
+        pick-case (EntriesCode (Call.OnBlock BlockCall.Put f o)) (entriesAre mark (m .entries) (f / 2 ^ h) (groupOf h o))
+        (λ _. gave-group f o b l) (λ _. refused seven)
 
-  get-at-leaves : (f o : ℕ) → LeavesGot (Call.Block OnBlock.GetAt f o) (getAt h n t m f o)
+  get-at-leaves : (f o : ℕ) → LeavesGot (Call.OnBlock BlockCall.GetAt f o) (getAt h n t m f o)
   unfolding getAt
   get-at-leaves f o =
-      pick-case (LeavesGot (Call.Block OnBlock.GetAt f o)) (eqb (blockRefusal h n t m f o) 0)
-      (λ e. pick-case (LeavesGot (Call.Block OnBlock.GetAt f o)) (ltb o h)
+      pick-case (LeavesGot (Call.OnBlock BlockCall.GetAt f o)) (eqb (blockRefusal h n t m f o) 0)
+      (λ e. pick-case (LeavesGot (Call.OnBlock BlockCall.GetAt f o)) (ltb o h)
       (λ l. small-at-leaves f o (eqb-true _ 0 e) (ltb-true o h l)) (λ l. huge-at-leaves f o (eqb-true _ 0 e) (ltb-false o h l)))
-      (λ _. untouched (Call.Block OnBlock.GetAt f o) (blockRefusal h n t m f o))
+      (λ e. refused (eqb-false _ 0 e))
 
-  put-leaves : (f o : ℕ) → LeavesCode (Call.Block OnBlock.Put f o) (put h n t m f o)
+  put-leaves : (f o : ℕ) → LeavesCode (Call.OnBlock BlockCall.Put f o) (put h n t m f o)
   unfolding put
   put-leaves f o =
-      pick-case (LeavesCode (Call.Block OnBlock.Put f o)) (eqb (blockRefusal h n t m f o) 0)
-      (λ e. pick-case (LeavesCode (Call.Block OnBlock.Put f o)) (ltb o h)
+      pick-case (LeavesCode (Call.OnBlock BlockCall.Put f o)) (eqb (blockRefusal h n t m f o) 0)
+      (λ e. pick-case (LeavesCode (Call.OnBlock BlockCall.Put f o)) (ltb o h)
       (λ l. put-small-leaves f o (eqb-true _ 0 e) (ltb-true o h l)) (λ l. put-huge-leaves f o (eqb-true _ 0 e) (ltb-false o h l)))
-      (λ _. untouched (Call.Block OnBlock.Put f o) (blockRefusal h n t m f o))
+      (λ e. refused (eqb-false _ 0 e))
 
   -- ---- recover
 
-  recover-leaves : Leaves h n t m (Call.All OnAll.Recover) (recover h n t m .answer .code) (recover h n t m .left)
+  abbrev LeavesRecovered : Out Recovered Mem → Type 0
+  LeavesRecovered x = Leaves h n t m (Call.OnAll AllCall.Recover) (x .answer .code ∷ x .answer .entries ∷ x .answer .bitfields ∷ []) (x .left)
+
+  recover-leaves : LeavesRecovered (recover h n t m)
   unfolding recover recoverAll
   recover-leaves =
-      pick-case (λ (x : Out Recovered Mem). Leaves h n t m (Call.All OnAll.Recover) (x .answer .code) (x .left)) (eqb (sizesRefusal h n t m) 0)
-      (λ e. pick-case (λ (x : Out Recovered Mem). Leaves h n t m (Call.All OnAll.Recover) (x .answer .code) (x .left)) (recoverable h n t m)
-      (λ _. recovered (eqb-true _ 0 e)) (λ _. untouched (Call.All OnAll.Recover) 8))
-      (λ _. untouched (Call.All OnAll.Recover) (sizesRefusal h n t m))
+      pick-case LeavesRecovered (eqb (sizesRefusal h n t m) 0)
+      (λ e. pick-case LeavesRecovered (recoverable h n t m) (λ _. recovered (eqb-true _ 0 e)) (λ _. asked-all))
+      (λ _. asked-all)
 
   -- ---- all calls
 
-  pub leaves : (c : Call) → Leaves h n t m c (code h n t m c) (left h n t m c)
+  pub leaves : (c : Call) → Leaves h n t m c (called h n t m c .answer) (left h n t m c)
   unfolding called
   leaves (Call.Get row o) = get-leaves row o
-  leaves (Call.Block OnBlock.GetAt f o) = get-at-leaves f o
-  leaves (Call.Block OnBlock.Put f o) = put-leaves f o
-  leaves (Call.Block OnBlock.IsFree f o) = untouched (Call.Block OnBlock.IsFree f o) _
-  leaves (Call.Frame (OnFrame.StatsAt o) f) = untouched (Call.Frame (OnFrame.StatsAt o) f) _
-  leaves (Call.Frame OnFrame.Room f) = untouched (Call.Frame OnFrame.Room f) _
-  leaves (Call.Frame OnFrame.TreeRun f) = untouched (Call.Frame OnFrame.TreeRun f) _
-  leaves (Call.All OnAll.Stats) = untouched (Call.All OnAll.Stats) _
-  leaves (Call.All OnAll.Audit) = untouched (Call.All OnAll.Audit) _
-  leaves (Call.All OnAll.Recover) = recover-leaves
+  leaves (Call.OnBlock BlockCall.GetAt f o) = get-at-leaves f o
+  leaves (Call.OnBlock BlockCall.Put f o) = put-leaves f o
+  leaves (Call.OnBlock BlockCall.IsFree f o) = asked-block
+  leaves (Call.OnFrame (FrameCall.StatsAt o) f) = asked-frame
+  leaves (Call.OnFrame FrameCall.Room f) = asked-frame
+  leaves (Call.OnFrame FrameCall.TreeRun f) = asked-frame
+  leaves (Call.OnAll AllCall.Stats) = asked-all
+  leaves (Call.OnAll AllCall.Audit) = asked-all
+  leaves (Call.OnAll AllCall.Recover) = recover-leaves

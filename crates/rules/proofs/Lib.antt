@@ -2,11 +2,11 @@ pub mod AuditSteps
 pub mod Reasons
 pub mod ClearBits
 pub mod Audits
-pub mod Beyonds
 pub mod Blocks
 pub mod Theorems
 pub mod FreeCounts
 pub mod Determined
+pub mod Differs
 pub mod Effects
 pub mod Exacts
 pub mod Flips
@@ -18,6 +18,7 @@ pub mod Groups
 pub mod HugeFrames
 pub mod HugeGets
 pub mod Leaves
+pub mod Marks
 pub mod Moves
 pub mod OneTree
 pub mod OtherTrees
@@ -31,11 +32,15 @@ pub mod Smalls
 pub mod Splits
 pub mod Starts
 pub mod TreeAsks
+pub mod Unread
 pub mod TreeHuge
 pub mod TreeParts
 pub mod TreeSmall
 pub mod Turns
 pub mod VisitExact
+pub mod Steps
+pub mod BlockWrites
+pub mod StepWrites
 pub mod Visits
 pub mod GroupCases
 pub mod GroupSteps
@@ -52,3 +57,4 @@ pub mod Below
 pub mod GetSteps
 pub mod BlockTurns
 pub mod VisitSteps
+pub mod Returns

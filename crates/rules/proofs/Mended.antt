@@ -4,7 +4,7 @@ use mathlib.Core.Bool.{Bool, true, false}
 use Prim.Native.Nat.{ℕ, _*_, _^_, _≤_, _<_}
 use native.Mathlib.Decide.{decLt}
 use native.Mathlib.Omega.{arith}
-use lib.ListN.{length, getD}
+use lib.ListN.{getD}
 use borrow.Author.Tests.{eq-eqb, ne-eqb}
 use Rattle.base.specs.Bits.{bitIs}
 use Rattle.base.specs.Size.{Huge}
@@ -12,7 +12,7 @@ use Rattle.base.proofs.Frames.{same-bit, zero-bit}
 use Rattle.base.proofs.Written.{written-in, written-beyond, length-written}
 use Rattle.rules.specs.Numbers.{mark, hugeOf, rowOf, ceil, rowsNeeded}
 use Rattle.rules.specs.Refusals.{Sized}
-use Rattle.rules.specs.State.{Mem, entryOf, clearOf}
+use Rattle.rules.specs.State.{Mem, entryOf, clearOf, lengthsOf}
 use Rattle.rules.proofs.Numbers.{huge-of-row, rows-cover, tree-pos}
 use Rattle.rules.proofs.Present.{present-low, absent-high, present-entry}
 use Rattle.rules.specs.Recover.{entryAfter, rowAfter, mended}
@@ -32,14 +32,14 @@ module _ (h n : ℕ) (m : Mem) where
 
 -- ---- what is mended
 
-module _ {h n t : ℕ} (m : Mem) (s : Sized h n t (length (m .rows)) (length (m .entries))) where
-  pub mended-sized : Sized h n t (length (mended h n m .rows)) (length (mended h n m .entries))
+module _ {h n t : ℕ} (m : Mem) (s : Sized h n t (lengthsOf m)) where
+  pub mended-sized : Sized h n t (lengthsOf (mended h n m))
   unfolding mended
   mended-sized = rw (length-written (rowAfter h m) (m .rows) 0 (rowsNeeded h n), length-written (entryAfter h m) (m .entries) 0 (ceil n (2 ^ h))) s
 
   -- the entries of present huge frames
   module _ (x : ℕ) (l : x * 2 ^ h < n) where
-    mended-entry : entryOf (mended h n m .entries) x ≡ entryAfter h m x
+    pub mended-entry : entryOf (mended h n m .entries) x ≡ entryAfter h m x
     unfolding mended
     mended-entry =
         written-in (entryAfter h m) (m .entries) 0 (ceil n (2 ^ h)) x (omega arith) (omega (arith, present-low h n x l))

@@ -6,6 +6,7 @@ use native.Mathlib.Omega.{arith}
 use lib.Pow.{pow-pos, pow-mono}
 use Rattle.base.specs.Size.{Huge}
 use Rattle.base.proofs.Sizes.{frames-fit, frames-many}
+use Rattle.rules.specs.State.{Lengths}
 use Rattle.rules.specs.Refusals.{Sized}
 use Rattle.rules.specs.Numbers.{treeOf, treeLog, ceil, entriesNeeded}
 use Rattle.rules.proofs.Numbers.{tree-pos, tree-high, ceil-covers}
@@ -45,7 +46,7 @@ module _ (h n t : ℕ) where
       let below : k * 2 ^ h ≤ entriesNeeded h n t * 2 ^ h = omega (arith, needed-cover p) in
       le-of-mul-le-mul-right below (pow-pos h)
 
-module _ {h n t rl el : ℕ} (s : Sized h n t rl el) where
+module _ {h n t : ℕ} {len : Lengths} (s : Sized h n t len) where
   -- fewer than a tree's frames lie past N, so an entry's number is small
   pub entry-low : {x : ℕ} → Huge h → x < entriesNeeded h n t → x < 1048576
   entry-low {x} H l =
@@ -65,5 +66,5 @@ module _ {h n t rl el : ℕ} (s : Sized h n t rl el) where
     needed-trees =
         trees-is ∙ rw (all-is, log-pow t (s .tree) log-is, mul-comm t (ceil n (2 ^ h * t))) (mul-div-cancel (ceil n (2 ^ h * t)) (tree-pos t (s .tree)))
 
-    pub trees-lent : trees * t ≤ el
+    pub trees-lent : trees * t ≤ len .entries
     trees-lent = rw needed-trees (omega (arith, s .entries, mul-comm t (ceil n (2 ^ h * t))))

@@ -7,7 +7,7 @@ use native.Mathlib.Omega.{arith}
 use lib.Dec.{eqb, lit<}
 use lib.Pow.{pow-pos, pow-lt, pow-mono}
 use borrow.Author.Tests.{eq-eqb, ne-eqb, eqb-true, lt-ltb, ltb-true}
-use Rattle.base.specs.Size.{Huge, rowsOf}
+use Rattle.base.specs.Size.{Huge, rowsPer}
 use Rattle.base.proofs.Walks.{first-hit, first-is}
 use Rattle.base.proofs.Sizes.{rows-frames, rest-by-less}
 use Rattle.rules.specs.Numbers.{rowOf, hugeOf, treeOf, treeLog, isTree, ceil, rowsNeeded, entriesNeeded}
@@ -43,17 +43,17 @@ pow-tree k h = rw (tree-is k h) (lt-ltb k 10 h)
 -- ---- where a frame is
 
 -- the huge frame of a frame is that of its row
-pub huge-of-row : {h : ℕ} (f : ℕ) → Huge h → hugeOf h f ≡ rowOf f / rowsOf h
-huge-of-row {h} f huge = rw (rows-frames huge, mul-comm (rowsOf h) 64) (sym (div-div-eq-div-mul f 64 (rowsOf h)))
+pub huge-of-row : {h : ℕ} (f : ℕ) → Huge h → hugeOf h f ≡ rowOf f / rowsPer h
+huge-of-row {h} f huge = rw (rows-frames huge, mul-comm (rowsPer h) 64) (sym (div-div-eq-div-mul f 64 (rowsPer h)))
 
-pub huge-by-rows : {h : ℕ} (row : ℕ) → Huge h → hugeOf h (row * 64) ≡ row / rowsOf h
-huge-by-rows {h} row H = huge-of-row (row * 64) H ∙ ap (λ (r : ℕ). r / rowsOf h) (mul-div-cancel row (lit< tt))
+pub huge-by-rows : {h : ℕ} (row : ℕ) → Huge h → hugeOf h (row * 64) ≡ row / rowsPer h
+huge-by-rows {h} row H = huge-of-row (row * 64) H ∙ ap (λ (r : ℕ). r / rowsPer h) (mul-div-cancel row (lit< tt))
 
 -- the tree of a frame is that of its huge frame
 pub tree-of-huge : (h t f : ℕ) → treeOf h t f ≡ hugeOf h f / t
 tree-of-huge h t f = sym (div-div-eq-div-mul f (2 ^ h) t)
 
-pub tree-by-rows : {h : ℕ} (t row : ℕ) → Huge h → treeOf h t (row * 64) ≡ row / rowsOf h / t
+pub tree-by-rows : {h : ℕ} (t row : ℕ) → Huge h → treeOf h t (row * 64) ≡ row / rowsPer h / t
 tree-by-rows {h} t row H = tree-of-huge h t (row * 64) ∙ ap (λ (x : ℕ). x / t) (huge-by-rows row H)
 
 -- ---- how much is lent
@@ -69,7 +69,7 @@ ceil-least n b q p l = let m : ceil n b < q + 1 = div-lt-iff-lt-mul p .1 (omega 
 -- each frame below n has a row among those that n frames need
 pub rows-cover : {h : ℕ} (n f : ℕ) → Huge h → f < n → rowOf f < rowsNeeded h n
 rows-cover {h} n f huge l =
-    rw (rows-frames huge) (div-lt-iff-lt-mul (lit< tt) .1 (omega (arith, ceil-covers n (rowsOf h * 64) (mul-pos (pow-pos (h - 6)) (lit< tt)))))
+    rw (rows-frames huge) (div-lt-iff-lt-mul (lit< tt) .1 (omega (arith, ceil-covers n (rowsPer h * 64) (mul-pos (pow-pos (h - 6)) (lit< tt)))))
 
 -- and its huge frame an entry among those that n frames need, in trees of t
 pub entries-cover : (h n t f : ℕ) → 0 < t → f < n → hugeOf h f < entriesNeeded h n t

@@ -6,18 +6,18 @@ use Prim.Native.Nat.{ℕ, _+_, _*_, _/_, _≤_, _<_}
 use native.Mathlib.Nat.{div-mul-le-self}
 use native.Mathlib.Omega.{arith}
 use lib.Dec.{eqb, ltb}
-use lib.ListN.{length, replicate}
+use lib.ListN.{replicate}
 use borrow.Author.Tests.{eqb-true, ltb-true, ltb-false}
 use Rattle.base.specs.Walk.{pick}
 use Rattle.base.specs.Code.{Out, out, orElse, unrefused}
-use Rattle.base.specs.Size.{rowsOf}
+use Rattle.base.specs.Size.{rowsPer}
 use Rattle.base.proofs.Walks.{pick-both}
 use Rattle.base.proofs.Codes.{answer-alike}
 use Rattle.bitfield_rules.specs.Calls.{answered}
 use Rattle.rules.specs.declared.Got.{Got}
 use Rattle.rules.specs.Numbers.{hugeOf, treeOf, groupOf}
 use Rattle.rules.specs.Refusals.{Blocked, sizesRefusal, blockRefusal, startRefusal, frameRefusal}
-use Rattle.rules.specs.State.{Mem}
+use Rattle.rules.specs.State.{Mem, lengthsOf}
 use Rattle.rules.specs.Get.{got, get, getAt}
 use Rattle.rules.specs.Queries.{statistics, isFree, statsAt}
 use Rattle.rules.proofs.Numbers.{tree-of-huge, tree-by-rows}
@@ -26,7 +26,7 @@ use Rattle.rules.proofs.GroupSteps.{group-in-tree}
 use Rattle.bitfield_rules.specs.declared.Answered.{Answered}
 use Rattle.rules.specs.Put.{put}
 use Rattle.rules.specs.Room.{orders, room, treeRun}
-use Rattle.rules.specs.Call.{OnBlock, OnFrame, OnAll, Call, statsNumbers, gotNumbers, called}
+use Rattle.rules.specs.Call.{BlockCall, FrameCall, AllCall, Call, statsNumbers, gotNumbers, called}
 use Rattle.rules.specs.OneTree.{On, OneTree}
 use Rattle.rules.proofs.OtherTrees.{other-trees}
 use Rattle.rules.proofs.TreeParts.{Agreeing, Alike, same-alike, pick-alike}
@@ -52,7 +52,7 @@ module _ {h n t y : ℕ} {a b : Mem} (w : Agreeing h n t y a b) where
   -- ---- get without a frame
 
   module _ (row o : ℕ) (here : treeOf h t (row * 64) ≡ y) where
-    start-here : row / rowsOf h / t ≡ y
+    start-here : row / rowsPer h / t ≡ y
     start-here = sym (tree-by-rows t row (w .huge)) ∙ here
 
     start-alike : startRefusal h n t a row o ≡ startRefusal h n t b row o
@@ -62,7 +62,7 @@ module _ {h n t y : ℕ} {a b : Mem} (w : Agreeing h n t y a b) where
     unfolding get
     get-alike =
         done-alike (λ c. got c 0 0) o start-alike (λ _ _. get-small-alike w row o start-here)
-        (λ z l. get-huge-alike w row o start-here l (started h n t _ _ row o z) (started h n t _ _ row o (sym start-alike ∙ z)))
+        (λ z l. get-huge-alike w row o start-here l (started h n t _ row o z) (started h n t _ row o (sym start-alike ∙ z)))
 
   -- ---- calls with a block
 
@@ -77,11 +77,11 @@ module _ {h n t y : ℕ} {a b : Mem} (w : Agreeing h n t y a b) where
     block-alike = code-alike _
 
     module _ (z : blockRefusal h n t a f o ≡ 0) where
-      passed : Blocked h n t (length (a .rows)) (length (a .entries)) f o
-      passed = blocked h n t _ _ f o z
+      passed : Blocked h n t (lengthsOf a) f o
+      passed = blocked h n t _ f o z
 
-      other-passed : Blocked h n t (length (b .rows)) (length (b .entries)) f o
-      other-passed = blocked h n t _ _ f o (sym block-alike ∙ z)
+      other-passed : Blocked h n t (lengthsOf b) f o
+      other-passed = blocked h n t _ f o (sym block-alike ∙ z)
 
       group-ends : h ≤ o → hugeOf h f + groupOf h o ≤ y * t + t
       group-ends l = omega (arith, group-in-tree passed l, ap (λ (k : ℕ). k * t) here)
@@ -113,7 +113,7 @@ module _ {h n t y : ℕ} {a b : Mem} (w : Agreeing h n t y a b) where
     frame-alike = code-alike _
 
     below : frameRefusal h n t a f ≡ 0 → f < n
-    below z = framed h n t _ _ f z .below
+    below z = framed h n t _ f z .below
 
     stats-at-alike : (o : ℕ) → statsAt h n t a f o ≡ statsAt h n t b f o
     unfolding statsAt
@@ -136,17 +136,17 @@ module _ {h n t y : ℕ} {a b : Mem} (w : Agreeing h n t y a b) where
   called-alike : (c : Call) → On h t y c → Alike h n t y (called h n t a c) (called h n t b c)
   unfolding On called
   called-alike (Call.Get row o) on = got-alike (get-alike w row o on)
-  called-alike (Call.Block OnBlock.GetAt f o) on = got-alike (get-at-alike w f o on)
-  called-alike (Call.Block OnBlock.Put f o) on = let k = put-alike w f o on in record { answer = ap (λ (c : ℕ). c ∷ []) (k .answer); left = k .left }
-  called-alike (Call.All OnAll.Recover) on = absurd on
-  called-alike (Call.Block OnBlock.IsFree f o) on = record { answer = ap (λ (r : Answered). r .code ∷ pick (r .yes) 1 0 ∷ []) (is-free-alike w f o on); left = w }
-  called-alike (Call.Frame (OnFrame.StatsAt o) f) on = record { answer = ap statsNumbers (stats-at-alike w f on o); left = w }
-  called-alike (Call.Frame OnFrame.Room f) on = record { answer = ap (λ (r : Out ℕ (List ℕ)). r .answer ∷ r .left) (room-call-alike w f on); left = w }
-  called-alike (Call.Frame OnFrame.TreeRun f) on = record { answer = ap₂ (λ (c : ℕ) (es : List ℕ). c ∷ es) (frame-alike w f on) (tree-run-alike w f on); left = w }
-  called-alike (Call.All OnAll.Stats) on = absurd on
-  called-alike (Call.All OnAll.Audit) on = absurd on
+  called-alike (Call.OnBlock BlockCall.GetAt f o) on = got-alike (get-at-alike w f o on)
+  called-alike (Call.OnBlock BlockCall.Put f o) on = let k = put-alike w f o on in record { answer = ap (λ (c : ℕ). c ∷ []) (k .answer); left = k .left }
+  called-alike (Call.OnAll AllCall.Recover) on = absurd on
+  called-alike (Call.OnBlock BlockCall.IsFree f o) on = record { answer = ap (λ (r : Answered). r .code ∷ pick (r .yes) 1 0 ∷ []) (is-free-alike w f o on); left = w }
+  called-alike (Call.OnFrame (FrameCall.StatsAt o) f) on = record { answer = ap statsNumbers (stats-at-alike w f on o); left = w }
+  called-alike (Call.OnFrame FrameCall.Room f) on = record { answer = ap (λ (r : Out ℕ (List ℕ)). r .answer ∷ r .left) (room-call-alike w f on); left = w }
+  called-alike (Call.OnFrame FrameCall.TreeRun f) on = record { answer = ap₂ (λ (c : ℕ) (es : List ℕ). c ∷ es) (frame-alike w f on) (tree-run-alike w f on); left = w }
+  called-alike (Call.OnAll AllCall.Stats) on = absurd on
+  called-alike (Call.OnAll AllCall.Audit) on = absurd on
 
 pub tree-alone : OneTree
 tree-alone h n t y a b c H s z on g =
-    let k = called-alike (record { huge = H; sized = sized h n t _ _ s; other = sized h n t _ _ z; agree = g }) c on in
+    let k = called-alike (record { huge = H; sized = sized h n t _ s; other = sized h n t _ z; agree = g }) c on in
     (k .answer, (k .left .agree, other-trees h n t y a c H on))

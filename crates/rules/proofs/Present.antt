@@ -5,10 +5,11 @@ use native.Mathlib.Decide.{decLt}
 use native.Mathlib.Nat.{mul-comm, mul-div-cancel, mul-le-mul-right, mod-lt, div-add-mod', div-mul-le-self, div-lt-iff-lt-mul, lt-of-mul-lt-mul-right}
 use native.Mathlib.Omega.{arith}
 use lib.Pow.{pow-pos, shr-le}
-use Rattle.base.specs.Size.{Huge, rowsOf}
+use Rattle.base.specs.Size.{Huge, rowsPer}
 use Rattle.base.proofs.Sizes.{first-row, place-ends}
 use Rattle.base.proofs.Rests.{quotient-is}
 use Rattle.rules.specs.Numbers.{rowOf, hugeOf, ceil, rowsNeeded, entriesNeeded}
+use Rattle.rules.specs.State.{Lengths}
 use Rattle.rules.specs.Refusals.{Sized}
 use Rattle.rules.proofs.Numbers.{tree-pos, huge-of-row, ceil-covers, ceil-least, entries-cover}
 
@@ -30,15 +31,15 @@ module _ (h n : ℕ) where
   low-present x l = elim (decLt (x * 2 ^ h) n) [ yes q ↦ q | no q ↦ absurd (omega (arith, absent-high x (omega arith))) ]
 
   -- and so is a needed row
-  pub row-present : (i : ℕ) → i < rowsNeeded h n → i / rowsOf h * 2 ^ h < n
-  row-present i l = low-present (i / rowsOf h) (div-lt-iff-lt-mul (pow-pos (h - 6)) .1 (rw (mul-comm (rowsOf h)) at l))
+  pub row-present : (i : ℕ) → i < rowsNeeded h n → i / rowsPer h * 2 ^ h < n
+  row-present i l = low-present (i / rowsPer h) (div-lt-iff-lt-mul (pow-pos (h - 6)) .1 (rw (mul-comm (rowsPer h)) at l))
 
 -- ---- the needed rows
 
 module _ {h : ℕ} (H : Huge h) (n : ℕ) where
   -- their bits are those of the huge frames that n frames reach into
   rows-bits : rowsNeeded h n * 64 ≡ ceil n (2 ^ h) * 2 ^ h
-  rows-bits = ap (λ (k : ℕ). k * 64) (mul-comm (rowsOf h) (ceil n (2 ^ h))) ∙ first-row H (ceil n (2 ^ h))
+  rows-bits = ap (λ (k : ℕ). k * 64) (mul-comm (rowsPer h) (ceil n (2 ^ h))) ∙ first-row H (ceil n (2 ^ h))
 
   -- so each of the n frames has a bit there
   pub rows-enough : n ≤ rowsNeeded h n * 64
@@ -61,10 +62,10 @@ pub huge-ends : (h f x : ℕ) → hugeOf h f ≡ x → (x * 2 ^ h ≤ f) × (f <
 huge-ends h f x e = rw (← e) (div-mul-le-self f (2 ^ h), omega (arith, div-add-mod' f (2 ^ h), mod-lt f (pow-pos h)))
 
 -- those of a row
-pub row-within : {h : ℕ} → Huge h → (i f : ℕ) → i * 64 ≤ f → f < (i + 1) * 64 → (i / rowsOf h * 2 ^ h ≤ f) × (f < (i / rowsOf h + 1) * 2 ^ h)
+pub row-within : {h : ℕ} → Huge h → (i f : ℕ) → i * 64 ≤ f → f < (i + 1) * 64 → (i / rowsPer h * 2 ^ h ≤ f) × (f < (i / rowsPer h + 1) * 2 ^ h)
 row-within {h} H i f a b =
     let row : rowOf f ≡ i = quotient-is 64 i f a (omega arith) in
-    huge-ends h f (i / rowsOf h) (huge-of-row f H ∙ ap (λ (r : ℕ). r / rowsOf h) row)
+    huge-ends h f (i / rowsPer h) (huge-of-row f H ∙ ap (λ (r : ℕ). r / rowsPer h) row)
 
 -- an aligned block below the huge order
 module _ {h : ℕ} (f o : ℕ) (low : o < h) (even : f % 2 ^ o ≡ 0) where
@@ -78,7 +79,7 @@ module _ {h : ℕ} (f o : ℕ) (low : o < h) (even : f % 2 ^ o ≡ 0) where
 
 -- ---- the last present huge frame
 
-module _ {h n t rl el : ℕ} (s : Sized h n t rl el) {last : ℕ} (last-is : last ≡ hugeOf h (n - 1)) where
+module _ {h n t : ℕ} {len : Lengths} (s : Sized h n t len) {last : ℕ} (last-is : last ≡ hugeOf h (n - 1)) where
   -- it begins below N
   pub last-present : last * 2 ^ h < n
   last-present = rw last-is (omega (arith, s .some, div-add-mod' (n - 1) (2 ^ h)))

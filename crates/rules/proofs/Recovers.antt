@@ -13,7 +13,7 @@ use borrow.Author.Tests.{eq-eqb, ne-eqb, eqb-true, leb-true}
 use Rattle.base.specs.Walk.{pick, count}
 use Rattle.base.specs.Bits.{bitIs, blockIs}
 use Rattle.base.specs.Code.{Out, out, unless}
-use Rattle.base.specs.Size.{Huge, rowsOf}
+use Rattle.base.specs.Size.{Huge, rowsPer}
 use Rattle.base.proofs.Sizes.{frames-fit}
 use Rattle.base.proofs.Walks.{all-each, all-of, count-le, count-same, count-none, pick-case}
 use Rattle.base.proofs.Written.{written-stays}
@@ -21,7 +21,7 @@ use Rattle.base.proofs.Frames.{block-each, clear-row}
 use Rattle.base.proofs.Codes.{done}
 use Rattle.rules.specs.Numbers.{mark, hugeOf, whole, ceil, rowsNeeded, entriesNeeded}
 use Rattle.rules.specs.Refusals.{Sized, sizesRefusal}
-use Rattle.rules.specs.State.{Mem, mem, entryOf, clearOf}
+use Rattle.rules.specs.State.{Mem, mem, entryOf, clearOf, lengthsOf}
 use Rattle.rules.proofs.Numbers.{tree-pos}
 use Rattle.rules.proofs.Lent.{sized, sized-passes}
 use Rattle.rules.proofs.Present.{present-entry, low-present, row-present, row-within, huge-is}
@@ -62,7 +62,7 @@ module _ (h n : ℕ) (m : Mem) (x : ℕ) (easy : not (blocksRecovery (reason h n
 
 -- ---- a state that is mended
 
-module _ {h n t : ℕ} {m : Mem} (H : Huge h) (fits : Fits m) (s : Sized h n t (length (m .rows)) (length (m .entries))) (r : recoverable h n t m ≡ true) where
+module _ {h n t : ℕ} {m : Mem} (H : Huge h) (fits : Fits m) (s : Sized h n t (lengthsOf m)) (r : recoverable h n t m ≡ true) where
   easy : (x : ℕ) → x < entriesNeeded h n t → not (blocksRecovery (reason h n m x)) ≡ true
   unfolding recoverable
   easy x l = all-each (λ x. not (blocksRecovery (reason h n m x))) (entriesNeeded h n t) 0 r x (omega arith) (omega arith)
@@ -94,7 +94,7 @@ module _ {h n t : ℕ} {m : Mem} (H : Huge h) (fits : Fits m) (s : Sized h n t (
   mended-fits : Fits (mended h n m)
   mended-fits = record {
     rows = λ i. elim (decLt i (rowsNeeded h n)) [
-      | yes l ↦ rw (mended-row m s i l) (pick-case (λ v. v < 2 ^ 64) (eqb (entryOf (m .entries) (i / rowsOf h)) mark) (λ _. omega arith) (λ _. fits .rows i))
+      | yes l ↦ rw (mended-row m s i l) (pick-case (λ v. v < 2 ^ 64) (eqb (entryOf (m .entries) (i / rowsPer h)) mark) (λ _. omega arith) (λ _. fits .rows i))
       | no l ↦ rw (rows-beyond h n m i (omega arith)) (fits .rows i)
     ];
     entries = λ x. elim (decLt (x * 2 ^ h) n) [
@@ -141,7 +141,7 @@ pub recover-makes-consistent : (h n t : ℕ) (m : Mem) → Huge h → Fits m →
 unfolding recover
 recover-makes-consistent h n t m H fits e =
     let d = done (recoverAll h n t m) (out (recovered (sizesRefusal h n t m) 0 0) m) (λ o. o .answer .code) refl e in
-    let s = sized h n t (length (m .rows)) (length (m .entries)) (d .0) in
+    let s = sized h n t (lengthsOf m) (d .0) in
     let r = recovered-mended h n t m (ap (λ (o : Out Recovered Mem). o .answer .code) (sym (d .1)) ∙ e) in
     rw (d .1, r .1) (mended-consistent H fits s (r .0), mended-free H fits s (r .0))
 
@@ -155,8 +155,8 @@ no-entries-differ es = count-none _ (length es) 0 (λ x _ _. ap not (eq-eqb (ent
 no-bitfields-differ : (h : ℕ) (rs : List ℕ) → bitfieldsDiffer h rs rs ≡ 0
 unfolding bitfieldsDiffer
 no-bitfields-differ h rs =
-    count-none _ (length rs / rowsOf h) 0
-    (λ x _ _. ap not (all-of (λ i. eqb (getD rs i 0) (getD rs i 0)) (rowsOf h) (x * rowsOf h) (λ i _ _. eq-eqb (getD rs i 0) (getD rs i 0) refl)))
+    count-none _ (length rs / rowsPer h) 0
+    (λ x _ _. ap not (all-of (λ i. eqb (getD rs i 0) (getD rs i 0)) (rowsPer h) (x * rowsPer h) (λ i _ _. eq-eqb (getD rs i 0) (getD rs i 0) refl)))
 
 module _ {h n t : ℕ} {m : Mem} (H : Huge h) (c : Consistent h n t m) where
   consistent-recoverable : recoverable h n t m ≡ true
@@ -164,9 +164,9 @@ module _ {h n t : ℕ} {m : Mem} (H : Huge h) (c : Consistent h n t m) where
   consistent-recoverable =
       all-of _ (entriesNeeded h n t) 0 (λ x _ l. ap (λ (r : ℕ). not (blocksRecovery r)) (consistent-reasonless H c x (omega arith)))
 
-  row-stays : (i : ℕ) → i / rowsOf h * 2 ^ h < n → rowAfter h m i ≡ getD (m .rows) i 0
+  row-stays : (i : ℕ) → i / rowsPer h * 2 ^ h < n → rowAfter h m i ≡ getD (m .rows) i 0
   row-stays i l =
-      let x = i / rowsOf h in
+      let x = i / rowsPer h in
       ⊎-elim
       (λ k. rw (eq-eqb _ _ (k .marked))
       (sym (clear-row (m .rows) (c .fits .rows) i (λ f a b. let own = row-within H i f a b in k .clear f (own .0) (own .1)))))

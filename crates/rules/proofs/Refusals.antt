@@ -5,11 +5,12 @@ use mathlib.Core.List.{List, [], _∷_}
 use Prim.Native.Nat.{ℕ, zero, suc, _+_, _*_, _^_}
 use native.Mathlib.Omega.{arith}
 use lib.Dec.{eqb, leb, ltb}
-use lib.ListN.{length, replicate}
-use borrow.Author.Tests.{ne-eqb, lt-ltb}
+use lib.ListN.{length, getD, replicate}
+use borrow.Author.Tests.{ne-eqb, eqb-true, lt-ltb}
 use Rattle.base.specs.Walk.{pick}
 use Rattle.base.specs.Code.{Out, out, unless, orElse, stored}
-use Rattle.base.proofs.Walks.{pick-case, pick-of}
+use Rattle.base.specs.Size.{Huge}
+use Rattle.base.proofs.Walks.{pick-case, pick-of, pick-both}
 use Rattle.base.proofs.Tests.{not-leb, not-ltb, not-both}
 use Rattle.base.proofs.Codes.{regrouped, or-none}
 use Rattle.base.proofs.Stored.{if-refused}
@@ -29,9 +30,11 @@ use Rattle.rules.specs.Audit.{faultless, auditAll, audit}
 use Rattle.rules.specs.declared.Recovered.{Recovered}
 use Rattle.rules.specs.Recover.{recoverable, recoverAll, recover}
 use Rattle.rules.specs.Room.{room, treeRun}
-use Rattle.rules.specs.Call.{OnBlock, OnFrame, OnAll, Call, gotNumbers, statsNumbers, called, code, left}
-use Rattle.rules.specs.Keeps.{numberOf, tested, own, steps, fields, Bare}
-use Rattle.rules.proofs.Leaves.{Leaves, untouched, got-block, got-group, took-block, took-group, gave-block, gave-part, gave-group, recovered, leaves}
+use Rattle.rules.specs.Call.{BlockCall, FrameCall, AllCall, Call, gotNumbers, statsNumbers, called, code, left}
+use Rattle.rules.specs.Keeps.{numberOf, tested, own, fields, Bare}
+use Rattle.rules.specs.Steps.{steps}
+use Rattle.rules.proofs.Steps.{get-steps, get-at-steps, put-steps}
+use Rattle.rules.proofs.Leaves.{Leaves, refused, asked-block, asked-frame, asked-all, got-block, got-group, took-block, took-group, gave-block, gave-part, gave-group, recovered, leaves}
 
 -- ---- what a test refuses
 
@@ -66,7 +69,7 @@ module _ (h n t : ℕ) (m : Mem) where
       (not-both (leb (rowsNeeded h n) (length (m .rows))) (leb (entriesNeeded h n t) (length (m .entries))))
 
   -- 1, 2 and 3, and what follows them
-  sizes-then : (bs : List Bool) {rest : ℕ} → rest ≡ numberOf 4 bs → orElse (sizesRefusal h n t m) rest ≡ tested h n t m bs
+  pub sizes-then : (bs : List Bool) {rest : ℕ} → rest ≡ numberOf 4 bs → orElse (sizesRefusal h n t m) rest ≡ tested h n t m bs
   sizes-then bs {rest} e =
       regrouped (framesCode n) _ rest ∙ ap (orElse (framesCode n)) (regrouped (treeCode t) _ rest)
       ∙ numbered 0 (ltb 0 n && leb n 1048576) _ (frames-refused n) (numbered 1 (isTree t) _ refl (numbered 2 lent bs lent-refused e))
@@ -75,25 +78,25 @@ module _ (h n t : ℕ) (m : Mem) where
   unfolding numberOf
   sizes-tested = sym (or-none (sizesRefusal h n t m)) ∙ sizes-then [] refl
 
-  block-tested : (f o : ℕ) → blockRefusal h n t m f o ≡ tested h n t m (ltb (topOrder h t) o ∷ ltb n (f + 2 ^ o) ∷ not (aligned f o) ∷ [])
+  pub block-tested : (f o : ℕ) → blockRefusal h n t m f o ≡ tested h n t m (ltb (topOrder h t) o ∷ ltb n (f + 2 ^ o) ∷ not (aligned f o) ∷ [])
   block-tested f o =
       sizes-then _
       (numbered 3 (leb o (topOrder h t)) _ (not-leb o (topOrder h t)) (numbered 4 (leb (f + 2 ^ o) n) _ (not-leb (f + 2 ^ o) n) (last 5 (aligned f o) refl)))
 
-  start-tested : (row o : ℕ) → startRefusal h n t m row o ≡ tested h n t m (ltb (topOrder h t) o ∷ leb n (row * 64) ∷ [])
+  pub start-tested : (row o : ℕ) → startRefusal h n t m row o ≡ tested h n t m (ltb (topOrder h t) o ∷ leb n (row * 64) ∷ [])
   start-tested row o = sizes-then _ (numbered 3 (leb o (topOrder h t)) _ (not-leb o (topOrder h t)) (last 4 (ltb (row * 64) n) (not-ltb (row * 64) n)))
 
-  frame-tested : (f : ℕ) → frameRefusal h n t m f ≡ tested h n t m (false ∷ leb n f ∷ [])
+  pub frame-tested : (f : ℕ) → frameRefusal h n t m f ≡ tested h n t m (false ∷ leb n f ∷ [])
   unfolding numberOf
   frame-tested f = sizes-then (false ∷ leb n f ∷ []) (last 4 (ltb f n) (not-ltb f n))
 
 -- ---- the code of a call
 
 -- a call refused by code c, or done
-checked : {A : Type 0} (code : A → ℕ) {c k d : ℕ} (does refusal : A) → code refusal ≡ c → c ≡ k → code does ≡ d
+checked : {A : Type 0} (code : A → ℕ) {c k d : ℕ} (does refusal : A) → code refusal ≡ c → c ≡ k → (c ≡ 0 → code does ≡ d)
     → code (pick (eqb c 0) does refusal) ≡ orElse k d
 unfolding orElse
-checked code {c} does refusal q p e = pick-of code (eqb c 0) does refusal ∙ ap₂ (λ (x y : ℕ). pick (eqb c 0) x y) e q ∙ ap₂ orElse p refl
+checked code {c} does refusal q p e = rw (← p) (pick-of code (eqb c 0) does refusal ∙ pick-both _≡_ (eqb c 0) (λ z. e (eqb-true c 0 z)) (λ _. q))
 
 module _ (h n t : ℕ) (m : Mem) where
   -- stats_at answers no code of its own
@@ -108,26 +111,27 @@ module _ (h n t : ℕ) (m : Mem) where
   unfolding auditAll
   audit-done = pick-case (λ (x : Fault). x .code ≡ 0) (ltb (faultless h n t m) (entriesNeeded h n t)) (λ _. refl) (λ _. refl)
 
-  pub call-code : (c : Call) → code h n t m c ≡ orElse (tested h n t m (own h n t c)) (steps h n t m c)
-  unfolding called own steps get getAt put isFree stats statsAt statsAll audit recover room recoverAll recoverable
-  call-code (Call.Get row o) =
-      checked (λ (x : Out Got Mem). x .answer .code) _ _ refl (start-tested h n t m row o) (pick-of (λ (x : Out Got Mem). x .answer .code) (ltb o h) _ _)
-  call-code (Call.Block OnBlock.GetAt f o) =
-      checked (λ (x : Out Got Mem). x .answer .code) _ _ refl (block-tested h n t m f o) (pick-of (λ (x : Out Got Mem). x .answer .code) (ltb o h) _ _)
-  call-code (Call.Block OnBlock.Put f o) =
-      checked (λ (x : Out ℕ Mem). x .answer) _ _ refl (block-tested h n t m f o) (pick-of (λ (x : Out ℕ Mem). x .answer) (ltb o h) _ _)
-  call-code (Call.All OnAll.Recover) =
-      checked (λ (x : Out Recovered Mem). x .answer .code) _ _ refl (sizes-tested h n t m) refl
-  call-code (Call.Block OnBlock.IsFree f o) = checked (λ (x : Answered). x .code) _ _ refl (block-tested h n t m f o) refl
-  call-code (Call.Frame (OnFrame.StatsAt o) f) = checked (λ (x : Stats). x .code) _ _ refl (frame-tested h n t m f) (stats-at-done f o)
-  call-code (Call.Frame OnFrame.Room f) = checked (λ (x : Out ℕ (List ℕ)). x .answer) _ _ refl (frame-tested h n t m f) refl
-  call-code (Call.Frame OnFrame.TreeRun f) = sym (or-none (frameRefusal h n t m f)) ∙ ap₂ orElse (frame-tested h n t m f) refl
-  call-code (Call.All OnAll.Stats) = checked (λ (x : Stats). x .code) _ _ refl (sizes-tested h n t m) refl
-  call-code (Call.All OnAll.Audit) = checked (λ (x : Fault). x .code) _ _ refl (sizes-tested h n t m) audit-done
+  module _ (H : Huge h) where
+    pub call-code : (c : Call) → code h n t m c ≡ orElse (tested h n t m (own h n t c)) (steps h n t m c)
+    unfolding called own steps get getAt put isFree stats statsAt statsAll audit recover room recoverAll recoverable
+    call-code (Call.Get row o) =
+        checked (λ (x : Out Got Mem). x .answer .code) _ _ refl (start-tested h n t m row o) (λ s. ap (λ (r : Got). r .code) (get-steps H n t m row o s))
+    call-code (Call.OnBlock BlockCall.GetAt f o) =
+        checked (λ (x : Out Got Mem). x .answer .code) _ _ refl (block-tested h n t m f o) (λ _. ap (λ (r : Got). r .code) (get-at-steps h n t m f o))
+    call-code (Call.OnBlock BlockCall.Put f o) =
+        checked (λ (x : Out ℕ Mem). x .answer) _ _ refl (block-tested h n t m f o) (λ _. put-steps h n t m f o)
+    call-code (Call.OnAll AllCall.Recover) =
+        checked (λ (x : Out Recovered Mem). x .answer .code) _ _ refl (sizes-tested h n t m) (λ _. pick-of (λ (x : Out Recovered Mem). x .answer .code) (recoverable h n t m) _ _)
+    call-code (Call.OnBlock BlockCall.IsFree f o) = checked (λ (x : Answered). x .code) _ _ refl (block-tested h n t m f o) (λ _. refl)
+    call-code (Call.OnFrame (FrameCall.StatsAt o) f) = checked (λ (x : Stats). x .code) _ _ refl (frame-tested h n t m f) (λ _. stats-at-done f o)
+    call-code (Call.OnFrame FrameCall.Room f) = checked (λ (x : Out ℕ (List ℕ)). x .answer) _ _ refl (frame-tested h n t m f) (λ _. refl)
+    call-code (Call.OnFrame FrameCall.TreeRun f) = sym (or-none (frameRefusal h n t m f)) ∙ ap₂ orElse (frame-tested h n t m f) refl
+    call-code (Call.OnAll AllCall.Stats) = checked (λ (x : Stats). x .code) _ _ refl (sizes-tested h n t m) (λ _. refl)
+    call-code (Call.OnAll AllCall.Audit) = checked (λ (x : Fault). x .code) _ _ refl (sizes-tested h n t m) (λ _. audit-done)
 
   -- a start has no number of its own either
   start-code : (after : Mem) → stored (sizesRefusal h n t m) m after .answer ≡ tested h n t m []
-  start-code after = checked (λ (x : Out ℕ Mem). x .answer) (out 0 after) (out (sizesRefusal h n t m) m) refl (sizes-tested h n t m) refl ∙ or-none _
+  start-code after = checked (λ (x : Out ℕ Mem). x .answer) (out 0 after) (out (sizesRefusal h n t m) m) refl (sizes-tested h n t m) (λ _. refl) ∙ or-none _
 
   pub starts-code : (freeAll h n t m .answer ≡ tested h n t m []) × (reserveAll h n t m .answer ≡ tested h n t m [])
   unfolding freeAll reserveAll
@@ -144,27 +148,30 @@ module _ (h n t : ℕ) (m : Mem) where
   pub call-bare : (c : Call) → Bare h n t m c
   unfolding called own fields get getAt put isFree stats statsAt audit recover room treeRun replicate
   call-bare (Call.Get row o) = bare (λ (x : Out Got Mem). gotNumbers (x .answer)) _ _ refl (start-tested h n t m row o)
-  call-bare (Call.Block OnBlock.GetAt f o) = bare (λ (x : Out Got Mem). gotNumbers (x .answer)) _ _ refl (block-tested h n t m f o)
-  call-bare (Call.Block OnBlock.Put f o) = bare (λ (x : Out ℕ Mem). x .answer ∷ []) _ _ refl (block-tested h n t m f o)
-  call-bare (Call.Block OnBlock.IsFree f o) = bare (λ (x : Answered). x .code ∷ pick (x .yes) 1 0 ∷ []) _ _ refl (block-tested h n t m f o)
-  call-bare (Call.Frame (OnFrame.StatsAt o) f) = bare statsNumbers _ _ refl (frame-tested h n t m f)
-  call-bare (Call.Frame OnFrame.Room f) = bare (λ (x : Out ℕ (List ℕ)). x .answer ∷ x .left) _ _ refl (frame-tested h n t m f)
-  call-bare (Call.Frame OnFrame.TreeRun f) = bare (λ (x : List ℕ). frameRefusal h n t m f ∷ x) _ _ refl (frame-tested h n t m f)
-  call-bare (Call.All OnAll.Stats) = bare statsNumbers _ _ refl (sizes-tested h n t m)
-  call-bare (Call.All OnAll.Audit) = bare (λ (x : Fault). x .code ∷ x .huge ∷ x .reason ∷ []) _ _ refl (sizes-tested h n t m)
-  call-bare (Call.All OnAll.Recover) =
+  call-bare (Call.OnBlock BlockCall.GetAt f o) = bare (λ (x : Out Got Mem). gotNumbers (x .answer)) _ _ refl (block-tested h n t m f o)
+  call-bare (Call.OnBlock BlockCall.Put f o) = bare (λ (x : Out ℕ Mem). x .answer ∷ []) _ _ refl (block-tested h n t m f o)
+  call-bare (Call.OnBlock BlockCall.IsFree f o) = bare (λ (x : Answered). x .code ∷ pick (x .yes) 1 0 ∷ []) _ _ refl (block-tested h n t m f o)
+  call-bare (Call.OnFrame (FrameCall.StatsAt o) f) = bare statsNumbers _ _ refl (frame-tested h n t m f)
+  call-bare (Call.OnFrame FrameCall.Room f) = bare (λ (x : Out ℕ (List ℕ)). x .answer ∷ x .left) _ _ refl (frame-tested h n t m f)
+  call-bare (Call.OnFrame FrameCall.TreeRun f) = bare (λ (x : List ℕ). frameRefusal h n t m f ∷ x) _ _ refl (frame-tested h n t m f)
+  call-bare (Call.OnAll AllCall.Stats) = bare statsNumbers _ _ refl (sizes-tested h n t m)
+  call-bare (Call.OnAll AllCall.Audit) = bare (λ (x : Fault). x .code ∷ x .huge ∷ x .reason ∷ []) _ _ refl (sizes-tested h n t m)
+  call-bare (Call.OnAll AllCall.Recover) =
       bare (λ (x : Out Recovered Mem). x .answer .code ∷ x .answer .entries ∷ x .answer .bitfields ∷ []) _ _ refl (sizes-tested h n t m)
 
 -- ---- nothing is written
 
-refused-left : {h n t : ℕ} {m : Mem} {c : Call} {k : ℕ} {after : Mem} → Leaves h n t m c k after → (k ≡ 0 → ⊥) → after ≡ m
-refused-left (untouched c k) e = refl
-refused-left (got-block row o j f s l p) e = absurd (e refl)
-refused-left (got-group row o j s l p) e = absurd (e refl)
-refused-left (took-block f o b l) e = absurd (e refl)
+refused-left : {h n t : ℕ} {m : Mem} {c : Call} {ks : List ℕ} {after : Mem} → Leaves h n t m c ks after → (getD ks 0 0 ≡ 0 → ⊥) → after ≡ m
+refused-left (refused q) e = refl
+refused-left asked-block e = refl
+refused-left asked-frame e = refl
+refused-left asked-all e = refl
+refused-left (got-block row o j f p s l v) e = absurd (e refl)
+refused-left (got-group row o j p s l w) e = absurd (e refl)
+refused-left (took-block f o b l w) e = absurd (e refl)
 refused-left (took-group f o b l) e = absurd (e refl)
-refused-left (gave-block f o v b l) e = absurd (e refl)
-refused-left (gave-part f o v b l) e = absurd (e refl)
+refused-left (gave-block f o v b l w) e = absurd (e refl)
+refused-left (gave-part f o v b l w) e = absurd (e refl)
 refused-left (gave-group f o b l) e = absurd (e refl)
 refused-left (recovered s) e = absurd (e refl)
 

@@ -1,29 +1,32 @@
 -- Two results that satisfy one contract are equal; and the lines P1 to P12, computed. Assumes nothing.
-use mathlib.Core.Path.{refl, sym, _∙_}
-use Rattle.base.specs.Code.{orElse}
+use mathlib.Core.Path.{_≡_, refl, sym, _∙_}
+use Rattle.base.specs.Code.{Out, out, orElse}
 use Rattle.base.specs.Walk.{first, all, written}
 use Rattle.base.specs.Bits.{bitIs, blockIs, withBits}
 use Rattle.row.specs.Row.{lowest, firstZeros}
 use Rattle.row.proofs.Laws.{one-answer}
 use Rattle.rules.specs.Numbers.{treeLog}
 use Rattle.rules.specs.Put.{putHuge, putMarked, putCounted, putSmall, put}
-use Rattle.rules.specs.Results.{Unique, EqualResults, table, allHold, TableHolds}
+use Rattle.rules.specs.Results.{One, OneLeft, EqualResults, table, allHold, TableHolds}
 
-one : {A : Type 0} (what : A) → Unique what
+one : {A : Type 0} (what : A) → One (λ r. r ≡ what)
 one what a b p q = p ∙ sym q
 
+one-left : {A B : Type 0} (what : Out A B) → OneLeft (λ r left. out r left ≡ what)
+one-left what a b l k p q = let e = p ∙ sym q in (λ i. e i .answer, λ i. e i .left)
+
 pub results-equal : EqualResults
-results-equal n t m rows v f o b = record {
-  starts = (one _, one _);
-  gets = (one _, one _);
-  puts = one _;
+results-equal h n t m rows v f o b = record {
+  starts = (one-left _, one-left _);
+  gets = (one-left _, one-left _);
+  puts = one-left _;
   asks = (one _, (one _, one _));
-  audits = (one _, one _);
-  rooms = λ a b p q. let e = p ∙ sym q in λ i. record { code = e i .answer; counts = e i .left };
+  audits = (one _, one-left _);
+  rooms = one-left _;
   tree-runs = (one _, one _);
   row-searches = λ a b. one-answer a b v o;
-  searches = (one _, one _);
-  stores = (one _, (one _, one _));
+  searches = (one _, one-left _);
+  stores = (one-left _, (one-left _, one-left _));
   reads = (one _, one _);
 }
 

@@ -8,7 +8,7 @@ use Prim.Native.Nat.{ℕ, _+_, _*_, _^_, _≤_, _<_}
 use native.Mathlib.Decide.{decLt, decLe, ℕ-discrete}
 use native.Mathlib.Nat.{zero-add, add-sub-cancel-left}
 use native.Mathlib.Omega.{arith}
-use lib.ListN.{length, getD, set, length-set}
+use lib.ListN.{length, getD, length-set}
 use lib.Seq.{getD-set-same, getD-set-other}
 use Rattle.base.specs.Walk.{pick, count}
 use Rattle.base.specs.Bits.{bitIs, withBits}
@@ -18,7 +18,7 @@ use Rattle.base.proofs.Walks.{count-le, count-parts, count-same}
 use Rattle.base.proofs.Writes.{length-with, with-fits}
 use Rattle.base.proofs.Frames.{bit-kept, zeros-written}
 use Rattle.rules.specs.Numbers.{mark, hugeOf}
-use Rattle.rules.specs.State.{Mem, mem, entryOf, clearOf}
+use Rattle.rules.specs.State.{Mem, entryOf, clearOf, withRows, withEntry}
 use Rattle.rules.proofs.Numbers.{tree-pos}
 use Rattle.rules.proofs.Present.{huge-is, huge-ends, present-entry, present-ends}
 use Rattle.rules.specs.Consistent.{ByMark, ByCount, Consistent, free}
@@ -79,13 +79,11 @@ pub record Renewed (h n t : ℕ) (m left : Mem) (x : ℕ) : Type 0 where
   pub consistent : Consistent h n t left
   pub other : (g : ℕ) → (hugeOf h g ≡ x → ⊥) → free h n left g ≡ free h n m g
   pub own : (g : ℕ) → hugeOf h g ≡ x → g < n → free h n left g ≡ bitIs false (left .rows) g
-  pub new-mark : (y : ℕ) → entryOf (left .entries) y ≡ mark → entryOf (m .entries) y ≡ mark
-  pub old-mark : (y : ℕ) → (y ≡ x → ⊥) → entryOf (m .entries) y ≡ mark → entryOf (left .entries) y ≡ mark
 
 module _ {h n t : ℕ} {m : Mem} (H : Huge h) (c : Consistent h n t m) (x : ℕ) (here : x * 2 ^ h < n) (rs : List ℕ) (w : Rewritten h (m .rows) rs x) (e : ℕ)
     (counts : e ≡ clearOf h rs x) (past : (g : ℕ) → n ≤ g → g < (x + 1) * 2 ^ h → bitIs true rs g ≡ true) where
   abbrev left : Mem
-  left = mem rs (set (m .entries) x e)
+  left = withEntry (withRows m rs) x e
 
   own-entry : entryOf (left .entries) x ≡ e
   own-entry = getD-set-same (m .entries) x e 0 (omega (arith, present-entry h n t x (tree-pos t (c .sized .tree)) here, c .sized .entries))
@@ -143,6 +141,4 @@ module _ {h n t : ℕ} {m : Mem} (H : Huge h) (c : Consistent h n t m) (x : ℕ)
     consistent = left-consistent;
     other = other-free;
     own = λ g k l. free-bit h n left g l (unmarked (hugeOf h g) k);
-    new-mark = λ y q. elim (ℕ-discrete y x) [ yes k ↦ absurd (unmarked y k q) | no k ↦ sym (other-entry y k) ∙ q ];
-    old-mark = λ y k q. other-entry y k ∙ q;
   }

@@ -1,51 +1,23 @@
--- Places of a ring by how far they come behind one of them: no two come equally far, and a walk around the ring meets each in this order. Assumes nothing.
-use mathlib.Core.Path.{_≡_, sym, ap, _∙_}
-use Prim.Native.Nat.{ℕ, _+_, _-_, _*_, _/_, _%_, _<_}
-use native.Mathlib.Nat.{add-comm, div-add-mod', mod-lt, mod-eq-of-lt, mul-add-mod-self-right}
-use native.Mathlib.Omega.{arith}
+-- A walk around the ring of s, a tree's entries say, from s on: it meets each place of the ring, in the order of how far they come behind s. Assumes nothing.
+use mathlib.Core.Path.{_≡_, _∙_}
+use Prim.Native.Nat.{ℕ, _+_, _/_, _%_, _<_}
+use native.Mathlib.Nat.{div-add-mod', mod-lt, mod-eq-of-lt}
 use lib.Arith.{digits-div, digits-mod}
+use Rattle.base.specs.Ring.{stepsTo}
 use Rattle.base.proofs.Rests.{mod-sum}
+pub use Rattle.base.proofs.Rings.{steps-rest, steps-low, steps-ahead, ahead-steps, steps-same}
 use Rattle.rules.specs.Get.{entryAt}
-use Rattle.rules.specs.Exact.{stepsTo}
 
-module _ (k s : ℕ) where
-  -- how far p comes behind is a matter of its place in the ring alone
-  pub steps-rest : (p q : ℕ) → p % k ≡ q % k → stepsTo k s p ≡ stepsTo k s q
-  steps-rest p q e = sym (mod-sum p (k - s % k) k) ∙ rw e (mod-sum q (k - s % k) k)
+module _ (k s : ℕ) (pos : 0 < k) where
+  -- each place that it comes to lies in the ring
+  pub visited-ring : (d : ℕ) → entryAt k s d / k ≡ s / k
+  visited-ring d = digits-div (s / k) (mod-lt (s % k + d) pos)
 
-  module _ (pos : 0 < k) where
-    pub steps-low : (p : ℕ) → stepsTo k s p < k
-    steps-low p = mod-lt (p + (k - s % k)) pos
+  -- and comes as far behind s as was walked
+  pub visited-steps : (d : ℕ) → d < k → stepsTo k s (entryAt k s d) ≡ d
+  visited-steps d l =
+      steps-rest k s (entryAt k s d) (s + d) (digits-mod (s / k) (mod-lt (s % k + d) pos) ∙ mod-sum s d k) ∙ steps-ahead k s pos d ∙ mod-eq-of-lt l
 
-    -- what lies d ahead of s comes d behind it, around the ring
-    pub steps-ahead : (d : ℕ) → stepsTo k s (s + d) ≡ d % k
-    steps-ahead d =
-        let e : s + d + (k - s % k) ≡ (s / k + 1) * k + d = omega (arith, div-add-mod' s k, mod-lt s pos) in
-        ap (λ (x : ℕ). x % k) e ∙ mul-add-mod-self-right (s / k + 1) k d
-
-    -- what comes so far behind it lies as far ahead
-    pub ahead-steps : (p : ℕ) → (s + stepsTo k s p) % k ≡ p % k
-    ahead-steps p =
-        let e : p + (k - s % k) + s ≡ (s / k + 1) * k + p = omega (arith, div-add-mod' s k, mod-lt s pos) in
-        ap (λ (x : ℕ). x % k) (add-comm s (stepsTo k s p)) ∙ mod-sum (p + (k - s % k)) s k ∙ ap (λ (x : ℕ). x % k) e ∙ mul-add-mod-self-right (s / k + 1) k p
-
-    -- no two places of one ring come equally far behind
-    pub steps-same : (p q : ℕ) → p / k ≡ q / k → stepsTo k s p ≡ stepsTo k s q → p ≡ q
-    steps-same p q ring far =
-        let rest : p % k ≡ q % k = sym (ahead-steps p) ∙ ap (λ (d : ℕ). (s + d) % k) far ∙ ahead-steps q in
-        sym (div-add-mod' p k) ∙ rw (ring, rest) (div-add-mod' q k)
-
-    -- ---- a walk around the ring of s, from s on
-
-    -- each place that it comes to lies in the ring
-    pub visited-ring : (d : ℕ) → entryAt k s d / k ≡ s / k
-    visited-ring d = digits-div (s / k) (mod-lt (s % k + d) pos)
-
-    -- and comes as far behind s as was walked
-    pub visited-steps : (d : ℕ) → d < k → stepsTo k s (entryAt k s d) ≡ d
-    visited-steps d l =
-        steps-rest (entryAt k s d) (s + d) (digits-mod (s / k) (mod-lt (s % k + d) pos) ∙ mod-sum s d k) ∙ steps-ahead d ∙ mod-eq-of-lt l
-
-    -- it comes to each place of the ring
-    pub steps-visited : (p : ℕ) → p / k ≡ s / k → entryAt k s (stepsTo k s p) ≡ p
-    steps-visited p ring = rw (mod-sum s (stepsTo k s p) k, ahead-steps p, ← ring) (div-add-mod' p k)
+  -- it comes to each place of the ring
+  pub steps-visited : (p : ℕ) → p / k ≡ s / k → entryAt k s (stepsTo k s p) ≡ p
+  steps-visited p ring = rw (mod-sum s (stepsTo k s p) k, ahead-steps k s pos p, ← ring) (div-add-mod' p k)

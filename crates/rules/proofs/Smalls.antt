@@ -9,7 +9,7 @@ use native.Mathlib.Nat.{div-mul-le-self}
 use native.Mathlib.Omega.{arith}
 use lib.Dec.{eqb, leb}
 use lib.Pow.{pow-pos}
-use lib.ListN.{length, set}
+use lib.ListN.{length}
 use borrow.Author.Tests.{eq-eqb, ne-eqb, le-leb, lt-leb}
 use Rattle.base.specs.Walk.{pick, all, count}
 use Rattle.base.specs.Code.{Out, out, unless}
@@ -20,7 +20,7 @@ use Rattle.base.proofs.Frames.{bit-written, bit-kept, zeros-block, block-of}
 use Rattle.rules.specs.declared.Got.{Got}
 use Rattle.rules.specs.Numbers.{mark, hugeOf}
 use Rattle.rules.specs.Refusals.{Blocked}
-use Rattle.rules.specs.State.{Mem, mem, entryOf, clearOf}
+use Rattle.rules.specs.State.{Mem, entryOf, clearOf, lengthsOf, withRows, withEntry}
 use Rattle.rules.specs.Get.{got, taken, getSmallAt}
 use Rattle.rules.proofs.Present.{huge-ends, block-within}
 use Rattle.rules.specs.Put.{putMarked, putCounted, putSmall}
@@ -61,7 +61,7 @@ module _ {h n t : ℕ} {m : Mem} (H : Huge h) (c : Consistent h n t m) (f o : �
       toggled-clears =
           omega (arith, run-clears h b (m .rows) (hugeOf h f) f (2 ^ o) (div-mul-le-self f (2 ^ h)) (block-within f o low even) lent, counted .counts)
 
-      toggled-renewed : (e : ℕ) → e ≡ clearOf h toggled (hugeOf h f) → Renewed h n t m (mem toggled (set (m .entries) (hugeOf h f) e)) (hugeOf h f)
+      toggled-renewed : (e : ℕ) → e ≡ clearOf h toggled (hugeOf h f) → Renewed h n t m (withEntry (withRows m toggled) (hugeOf h f) e) (hugeOf h f)
       toggled-renewed e counts =
           renewed H c (hugeOf h f) (block-present c f o low even ends) toggled
           (run-rewritten h b (m .rows) (hugeOf h f) f (2 ^ o) (div-mul-le-self f (2 ^ h)) (block-within f o low even) (c .fits .rows)) e counts
@@ -78,10 +78,10 @@ module _ {h n t : ℕ} {m : Mem} (H : Huge h) (c : Consistent h n t m) (f o : �
     pub small-taken : blockIs false (m .rows) f (2 ^ o) ≡ true → Took h n t m (taken h m f o) f o
     small-taken e =
         took f o low even ends (toggled-renewed true (entry - 2 ^ o) (omega (arith, toggled-clears true, zeros-block false (m .rows) f (2 ^ o) e)))
-        (toggled-beside true) q (block-free c f o low even ends q ∙ e) (toggled-in true)
+        (toggled-beside true) (block-free c f o low even ends q ∙ e) (toggled-in true)
 
     abbrev given : Mem
-    given = mem (toggled false) (set (m .entries) (hugeOf h f) (entry + 2 ^ o))
+    given = withEntry (withRows m (toggled false)) (hugeOf h f) (entry + 2 ^ o)
 
     -- what a put leaves if the block's bits are set, or if not
     abbrev putOut : Bool → Out ℕ Mem
@@ -163,7 +163,7 @@ module _ {h n t : ℕ} {m : Mem} (H : Huge h) (c : Consistent h n t m) (f o : �
 
 -- ---- of a call that passed its refusals
 
-module _ {h n t : ℕ} {m : Mem} {f o : ℕ} (H : Huge h) (c : Consistent h n t m) (low : o < h) (b : Blocked h n t (length (m .rows)) (length (m .entries)) f o) where
+module _ {h n t : ℕ} {m : Mem} {f o : ℕ} (H : Huge h) (c : Consistent h n t m) (low : o < h) (b : Blocked h n t (lengthsOf m) f o) where
   pub get-small-at-exact : (getSmallAt h m f o .answer ≡ pick (all (free h n m) (2 ^ o) f) (got 0 f 1) (got 7 0 1))
       × (all (free h n m) (2 ^ o) f ≡ true → Took h n t m (getSmallAt h m f o .left) f o)
       × (all (free h n m) (2 ^ o) f ≡ false → getSmallAt h m f o .left ≡ m)

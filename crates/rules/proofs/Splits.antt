@@ -5,14 +5,14 @@ use mathlib.Core.List.{List}
 use Prim.Native.Nat.{ℕ, _+_, _*_, _%_, _^_, _≤_, _<_}
 use native.Mathlib.Nat.{div-mul-le-self}
 use native.Mathlib.Omega.{arith}
-use lib.ListN.{length, set}
+use lib.ListN.{length}
 use Rattle.base.specs.Bits.{bitIs, withBits}
 use Rattle.base.specs.Size.{Huge}
 use Rattle.base.proofs.Walks.{count-none}
 use Rattle.base.proofs.Writes.{length-with}
 use Rattle.base.proofs.Frames.{bit-written, bit-kept}
 use Rattle.rules.specs.Numbers.{mark, hugeOf}
-use Rattle.rules.specs.State.{Mem, mem, entryOf, clearOf}
+use Rattle.rules.specs.State.{Mem, entryOf, clearOf, withRows, withEntry}
 use Rattle.rules.proofs.Present.{huge-is, huge-ends, block-within, block-huge}
 use Rattle.rules.specs.Consistent.{Consistent, free}
 use Rattle.rules.proofs.Effects.{Gave, Beside}
@@ -27,7 +27,7 @@ filled h rows f = withBits true rows (hugeOf h f * 2 ^ h) (hugeOf h f * 2 ^ h + 
 
 -- then the block's clear
 abbrev pub split : ℕ → Mem → ℕ → ℕ → Mem
-split h m f o = mem (withBits false (filled h (m .rows) f) f (f + 2 ^ o)) (set (m .entries) (hugeOf h f) (2 ^ o))
+split h m f o = withEntry (withRows m (withBits false (filled h (m .rows) f) f (f + 2 ^ o))) (hugeOf h f) (2 ^ o)
 
 module _ {h n t : ℕ} {m : Mem} (H : Huge h) (c : Consistent h n t m) (f o : ℕ) (low : o < h) (even : f % 2 ^ o ≡ 0) (ends : f + 2 ^ o ≤ n)
     (q : entryOf (m .entries) (hugeOf h f) ≡ mark) where

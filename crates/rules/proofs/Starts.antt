@@ -21,7 +21,7 @@ use Rattle.base.proofs.Written.{written-in, written-beyond, length-written}
 use Rattle.base.proofs.Codes.{done}
 use Rattle.rules.specs.Numbers.{mark, hugeOf, rowsNeeded, entriesNeeded}
 use Rattle.rules.specs.Refusals.{Sized, sizesRefusal}
-use Rattle.rules.specs.State.{Mem, mem, entryOf, clearOf}
+use Rattle.rules.specs.State.{Mem, mem, entryOf, clearOf, lengthsOf}
 use Rattle.rules.proofs.Numbers.{tree-pos}
 use Rattle.rules.proofs.Lent.{sized}
 use Rattle.rules.proofs.Present.{present-entry, rows-enough, present-ends, huge-ends}
@@ -30,7 +30,7 @@ use Rattle.rules.specs.Starts.{rowsFrom, freeEntry, heldEntry, freeAll, 
 use Rattle.rules.specs.Consistent.{Fits, ByMark, ByCount, Consistent, free}
 use Rattle.rules.proofs.Frees.{no-mark, is-free, held-mark, held-bit}
 
-module _ {h n t : ℕ} (H : Huge h) (m : Mem) (fits : Fits m) (s : Sized h n t (length (m .rows)) (length (m .entries))) where
+module _ {h n t : ℕ} (H : Huge h) (m : Mem) (fits : Fits m) (s : Sized h n t (lengthsOf m)) where
   pos : 0 < t
   pos = tree-pos t (s .tree)
 
@@ -55,7 +55,7 @@ module _ {h n t : ℕ} (H : Huge h) (m : Mem) (fits : Fits m) (s : Sized h n t (
     started-entry : (x : ℕ) → x < entriesNeeded h n t → entryOf (started .entries) x ≡ e x
     started-entry x l = written-in e (m .entries) 0 (entriesNeeded h n t) x (omega arith) (omega arith) (omega (arith, s .entries))
 
-    started-sized : Sized h n t (length (started .rows)) (length (started .entries))
+    started-sized : Sized h n t (lengthsOf started)
     started-sized =
         let same : length (started .rows) ≡ length (m .rows) = length-with _ _ _ _ ∙ length-with _ _ _ _ in
         rw (same, length-written e (m .entries) 0 (entriesNeeded h n t)) s
@@ -177,7 +177,7 @@ pub free-all-is-consistent : (h n t : ℕ) (m : Mem) → Huge h → Fits m → f
 unfolding freeAll starts.allFree
 free-all-is-consistent h n t m H fits e =
     let d = done (out 0 (starts.allFree h n t m)) (out (sizesRefusal h n t m) m) (λ o. o .answer) refl e in
-    let s = sized h n t (length (m .rows)) (length (m .entries)) (d .0) in
+    let s = sized h n t (lengthsOf m) (d .0) in
     rw (d .1) (freed-consistent H m fits s, λ f l. freed-free H m fits s f (omega arith))
 
 pub reserve-all-is-consistent : (h n t : ℕ) (m : Mem) → Huge h → Fits m → reserveAll h n t m .answer ≡ 0
@@ -185,5 +185,5 @@ pub reserve-all-is-consistent : (h n t : ℕ) (m : Mem) → Huge h → Fits m �
 unfolding reserveAll starts.allHeld
 reserve-all-is-consistent h n t m H fits e =
     let d = done (out 0 (starts.allHeld h n t m)) (out (sizesRefusal h n t m) m) (λ o. o .answer) refl e in
-    let s = sized h n t (length (m .rows)) (length (m .entries)) (d .0) in
+    let s = sized h n t (lengthsOf m) (d .0) in
     rw (d .1) (reserved-consistent H m fits s, λ f l. reserved-held H m fits s f (omega arith))

@@ -3,16 +3,24 @@ use mathlib.Core.Path.{_≡_}
 use Prim.Native.Nat.{ℕ}
 use Rattle.rules.specs.State.{Mem}
 use Rattle.rules.specs.Exact.{Consistency, Demand2}
+use Rattle.rules.specs.Steps.{EveryStep}
 use Rattle.rules.specs.Keeps.{Keeps, CallsKeep}
 use Rattle.rules.specs.OneTree.{OneTree}
-use Rattle.rules.specs.Runs.{BorrowedAndReturned, NeverShared}
+use Rattle.rules.specs.Marks.{MarksMove}
+use Rattle.rules.specs.Same.{StateIsDetermined, BeyondUnread}
+use Rattle.rules.specs.Runs.{LedgerIsState, BorrowedAndReturned, NeverShared}
 use Rattle.rules.specs.Results.{EqualResults, TableHolds}
 use Rattle.rules.proofs.Starts.{free-all-is-consistent, reserve-all-is-consistent}
-use Rattle.rules.proofs.Audits.{clean-is-consistent}
+use Rattle.rules.proofs.Audits.{audit-names-first, clean-is-consistent}
 use Rattle.rules.proofs.Recovers.{recover-makes-consistent, recover-keeps-consistent}
+use Rattle.rules.proofs.Steps.{gets-answer, gets-at-answer, recover-refused}
+use Rattle.rules.proofs.StepWrites.{get-takes, get-at-takes, put-gives}
 use Rattle.rules.proofs.Refusals.{call-code, starts-code, call-bare, call-refused, starts-refused}
-use Rattle.rules.proofs.Beyonds.{Beyond, call-beyond, starts-beyond}
-use Rattle.rules.proofs.Runs.{calls-keep-consistent, borrowed-leaves-no-trace, frames-never-shared}
+use Rattle.rules.proofs.Beyond.{Beyond, call-beyond, starts-beyond}
+use Rattle.rules.proofs.Marks.{calls-mark}
+use Rattle.rules.proofs.Determined.{determined}
+use Rattle.rules.proofs.Unread.{needed-alone}
+use Rattle.rules.proofs.Runs.{calls-keep-consistent, ledger-tells, borrowed-leaves-no-trace, frames-never-shared}
 use Rattle.rules.proofs.Exacts.{calls-are-exact}
 use Rattle.rules.proofs.OneTree.{tree-alone}
 use Rattle.rules.proofs.Results.{results-equal, table-right}
@@ -21,6 +29,7 @@ pub consistency : Consistency
 consistency h n t m H fits = record {
   starts-free = free-all-is-consistent h n t m H fits;
   starts-held = reserve-all-is-consistent h n t m H fits;
+  audits-first = audit-names-first h n t m;
   audits = clean-is-consistent h n t m H fits;
   recovers = recover-makes-consistent h n t m H fits;
   recovers-nothing = recover-keeps-consistent h n t m H;
@@ -32,12 +41,34 @@ keeps e r b = record { exact = e; refused = r; rows = b .rows; entries = b .entr
 
 pub calls-keep : CallsKeep
 calls-keep h n t m H = (
-  λ c. (keeps (call-code h n t m c) (call-refused h n t m c) (call-beyond H n t m c), call-bare h n t m c),
+  λ c. (keeps (call-code h n t m H c) (call-refused h n t m c) (call-beyond H n t m c), call-bare h n t m c),
   (keeps (starts-code h n t m .0) (starts-refused h n t m .0) (starts-beyond H n t m .0), keeps (starts-code h n t m .1) (starts-refused h n t m .1) (starts-beyond H n t m .1)),
 )
 
+pub every-step : EveryStep
+every-step h n t m H = record {
+  gets = gets-answer H n t m;
+  gets-at = gets-at-answer h n t m;
+  recovers = recover-refused h n t m;
+  takes = get-takes H n t m;
+  takes-at = get-at-takes H n t m;
+  gives = put-gives H n t m;
+}
+
 pub demand-2 : Demand2
 demand-2 = calls-are-exact
+
+pub marks-move : MarksMove
+marks-move = calls-mark
+
+pub state-is-determined : StateIsDetermined
+state-is-determined = determined
+
+pub beyond-unread : BeyondUnread
+beyond-unread = needed-alone
+
+pub ledger-is-state : LedgerIsState
+ledger-is-state = ledger-tells
 
 pub borrowed-and-returned : BorrowedAndReturned
 borrowed-and-returned = borrowed-leaves-no-trace

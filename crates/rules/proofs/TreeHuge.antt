@@ -6,11 +6,11 @@ use native.Mathlib.Omega.{arith}
 use lib.Dec.{leb, ltb}
 use lib.ListN.{length}
 use Rattle.base.specs.Code.{Out}
-use Rattle.base.specs.Size.{rowsOf}
+use Rattle.base.specs.Size.{rowsPer}
 use Rattle.base.proofs.Walks.{pick-both, first-same}
 use Rattle.rules.specs.Numbers.{mark, hugeOf, treeLog, groupOf}
 use Rattle.rules.specs.Refusals.{Started}
-use Rattle.rules.specs.State.{Mem, onEntries, entriesAre}
+use Rattle.rules.specs.State.{Mem, onEntries, entriesAre, Lengths, lengthsOf}
 use Rattle.rules.specs.Get.{got, groupAt, groupsPassed, takeGroup, getHuge, getHugeAt}
 use Rattle.rules.specs.Put.{putHuge}
 use Rattle.rules.specs.Queries.{isFreeHuge}
@@ -24,16 +24,16 @@ module _ {h n t y : ℕ} {a b : Mem} (w : Agreeing h n t y a b) where
 
   -- ---- get without a frame
 
-  module _ (row o : ℕ) (here : row / rowsOf h / t ≡ y) (low : h ≤ o) (s : Started h n t (length (a .rows)) (length (a .entries)) row o)
-      (z : Started h n t (length (b .rows)) (length (b .entries)) row o) where
+  module _ (row o : ℕ) (here : row / rowsPer h / t ≡ y) (low : h ≤ o) (s : Started h n t (lengthsOf a) row o)
+      (z : Started h n t (lengthsOf b) row o) where
     -- the groups of the start row's tree, whose entries are lent
-    tree : {rl el : ℕ} → Started h n t rl el row o → Tree t (groupOf h o) (row / rowsOf h) (y * t) (2 ^ (h + treeLog t - o)) el
+    tree : {len : Lengths} → Started h n t len row o → Tree t (groupOf h o) (row / rowsPer h) (y * t) (2 ^ (h + treeLog t - o)) (len .entries)
     tree k = rw (← here) (start-groups (w .huge) k low)
 
     -- a group that is visited
     module _ (j : ℕ) where
       at : ℕ
-      at = groupAt t (groupOf h o) (row / rowsOf h) j
+      at = groupAt t (groupOf h o) (row / rowsPer h) j
 
       begins : y * t ≤ at
       unfolding at
@@ -50,14 +50,14 @@ module _ {h n t y : ℕ} {a b : Mem} (w : Agreeing h n t y a b) where
           (λ _. record { answer = refl; left = entries-written w (λ i. mark) at (groupOf h o) (omega (arith, ends, tree s .ends)) (omega (arith, ends, tree z .ends)) })
           (λ _. same-alike w (got 8 0 p))
 
-    passed-alike : groupsPassed h (a .entries) t (groupOf h o) (row / rowsOf h) ≡ groupsPassed h (b .entries) t (groupOf h o) (row / rowsOf h)
+    passed-alike : groupsPassed h (a .entries) t (groupOf h o) (row / rowsPer h) ≡ groupsPassed h (b .entries) t (groupOf h o) (row / rowsPer h)
     unfolding groupsPassed at
     passed-alike = first-same _ _ (t / groupOf h o) 0 (λ j _ _. entries-alike w (2 ^ h) (at j) (groupOf h o) (begins j) (ends j))
 
     pub get-huge-alike : KeptAlike (getHuge h n t (a .entries) row o) (getHuge h n t (b .entries) row o)
     unfolding getHuge at
     get-huge-alike =
-        let p = groupsPassed h (a .entries) t (groupOf h o) (row / rowsOf h) in
+        let p = groupsPassed h (a .entries) t (groupOf h o) (row / rowsPer h) in
         rw (← passed-alike) (pick-both KeptAlike (ltb p (t / groupOf h o)) (λ _. take-alike p (p + 1)) (λ _. same-alike w (got 7 0 (t / groupOf h o))))
 
   -- ---- a block's group of entries, which is lent and lies in the tree

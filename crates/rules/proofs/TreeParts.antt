@@ -10,7 +10,7 @@ use lib.ListN.{length, getD, set, length-set}
 use lib.Pow.{pow-pos}
 use Rattle.base.specs.Walk.{pick, written}
 use Rattle.base.specs.Code.{Out, out}
-use Rattle.base.specs.Size.{Huge, rowsOf}
+use Rattle.base.specs.Size.{Huge, rowsPer}
 use Rattle.base.specs.Bits.{bitIs, blockIs, withBits}
 use Rattle.base.proofs.Rests.{quotient-is}
 use Rattle.base.proofs.Walks.{pick-both, all-same}
@@ -20,7 +20,7 @@ use Rattle.base.proofs.Frames.{same-bit}
 use Rattle.base.proofs.Parts.{part-same}
 use Rattle.rules.specs.Numbers.{hugeOf, rowsNeeded}
 use Rattle.rules.specs.Refusals.{Sized}
-use Rattle.rules.specs.State.{Mem, mem, entryOf, partOf, entriesAre}
+use Rattle.rules.specs.State.{Mem, entryOf, rowsOf, entriesAre, lengthsOf, withRows, withEntries, withEntry}
 use Rattle.rules.proofs.Numbers.{huge-of-row}
 use Rattle.rules.proofs.Present.{present-low, huge-is}
 use Rattle.rules.proofs.Lent.{present-rows, frame-entry}
@@ -31,18 +31,18 @@ use Rattle.rules.specs.OneTree.{Agree}
 -- two states of one N and one T that are lent enough and agree on tree y
 pub record Agreeing (h n t y : ℕ) (a b : Mem) : Type 0 where
   pub huge : Huge h
-  pub sized : Sized h n t (length (a .rows)) (length (a .entries))
-  pub other : Sized h n t (length (b .rows)) (length (b .entries))
+  pub sized : Sized h n t (lengthsOf a)
+  pub other : Sized h n t (lengthsOf b)
   pub agree : Agree h n t y a b
 
 module _ {h n t y : ℕ} {a b : Mem} (w : Agreeing h n t y a b) where
   -- ---- what is read alike
 
   -- the rows of the tree's present huge frames
-  row-alike : (i : ℕ) → i / rowsOf h / t ≡ y → i / rowsOf h * 2 ^ h < n → getD (a .rows) i 0 ≡ getD (b .rows) i 0
+  row-alike : (i : ℕ) → i / rowsPer h / t ≡ y → i / rowsPer h * 2 ^ h < n → getD (a .rows) i 0 ≡ getD (b .rows) i 0
   row-alike i e l =
-      let below : i < rowsNeeded h n = rw (mul-comm (rowsOf h)) (div-lt-iff-lt-mul (pow-pos (h - 6)) .0 (present-low h n (i / rowsOf h) l)) in
-      w .agree .rows i below (sym (div-div-eq-div-mul i (rowsOf h) t) ∙ e)
+      let below : i < rowsNeeded h n = rw (mul-comm (rowsPer h)) (div-lt-iff-lt-mul (pow-pos (h - 6)) .0 (present-low h n (i / rowsPer h) l)) in
+      w .agree .rows i below (sym (div-div-eq-div-mul i (rowsPer h) t) ∙ e)
 
   pub bit-alike : (c : Bool) (f : ℕ) → hugeOf h f / t ≡ y → hugeOf h f * 2 ^ h < n → bitIs c (a .rows) f ≡ bitIs c (b .rows) f
   bit-alike c f e l = same-bit c (a .rows) (b .rows) f (row-alike (f / 64) (rw (huge-of-row f (w .huge)) at e) (rw (huge-of-row f (w .huge)) at l))
@@ -53,11 +53,11 @@ module _ {h n t y : ℕ} {a b : Mem} (w : Agreeing h n t y a b) where
     block-alike c f s lo hi =
         all-same _ _ s 0 (λ j _ l. let is : hugeOf h (f + j) ≡ x = huge-is h x (f + j) (omega arith) (omega arith) in bit-alike c (f + j) (rw is here) (rw is present))
 
-    pub part-alike : partOf h (a .rows) x ≡ partOf h (b .rows) x
+    pub part-alike : rowsOf h (a .rows) x ≡ rowsOf h (b .rows) x
     part-alike =
-        part-same (a .rows) (b .rows) (x * rowsOf h) (rowsOf h) (omega (arith, present-rows (w .huge) (w .sized) x present))
+        part-same (a .rows) (b .rows) (x * rowsPer h) (rowsPer h) (omega (arith, present-rows (w .huge) (w .sized) x present))
         (omega (arith, present-rows (w .huge) (w .other) x present))
-        (λ i l. let is : (x * rowsOf h + i) / rowsOf h ≡ x = digits-div x l in row-alike (x * rowsOf h + i) (rw is here) (rw is present))
+        (λ i l. let is : (x * rowsPer h + i) / rowsPer h ≡ x = digits-div x l in row-alike (x * rowsPer h + i) (rw is here) (rw is present))
 
   -- the tree's entries
   pub entry-alike : (x : ℕ) → y * t ≤ x → x < y * t + t → entryOf (a .entries) x ≡ entryOf (b .entries) x
@@ -68,7 +68,7 @@ module _ {h n t y : ℕ} {a b : Mem} (w : Agreeing h n t y a b) where
 
   -- ---- what is written alike
 
-  pub rows-written : (c : Bool) (p e : ℕ) → Agreeing h n t y (mem (withBits c (a .rows) p e) (a .entries)) (mem (withBits c (b .rows) p e) (b .entries))
+  pub rows-written : (c : Bool) (p e : ℕ) → Agreeing h n t y (withRows a (withBits c (a .rows) p e)) (withRows b (withBits c (b .rows) p e))
   rows-written c p e = record {
     huge = w .huge;
     sized = rw (length-with c (a .rows) p e) (w .sized);
@@ -80,7 +80,7 @@ module _ {h n t y : ℕ} {a b : Mem} (w : Agreeing h n t y a b) where
   }
 
   entry-set : (x v : ℕ) → x < length (a .entries) → x < length (b .entries)
-      → Agreeing h n t y (mem (a .rows) (set (a .entries) x v)) (mem (b .rows) (set (b .entries) x v))
+      → Agreeing h n t y (withEntries a (set (a .entries) x v)) (withEntries b (set (b .entries) x v))
   entry-set x v l k = record {
     huge = w .huge;
     sized = rw (length-set (a .entries) x v) (w .sized);
@@ -92,7 +92,7 @@ module _ {h n t y : ℕ} {a b : Mem} (w : Agreeing h n t y a b) where
   }
 
   pub entries-written : (f : ℕ → ℕ) (at k : ℕ) → at + k ≤ length (a .entries) → at + k ≤ length (b .entries)
-      → Agreeing h n t y (mem (a .rows) (written f (a .entries) at k)) (mem (b .rows) (written f (b .entries) at k))
+      → Agreeing h n t y (withEntries a (written f (a .entries) at k)) (withEntries b (written f (b .entries) at k))
   entries-written f at k l u = record {
     huge = w .huge;
     sized = rw (length-written f (a .entries) at k) (w .sized);
@@ -105,7 +105,7 @@ module _ {h n t y : ℕ} {a b : Mem} (w : Agreeing h n t y a b) where
 
 -- frames from f on, and the entry of f, which is below N
 pub block-written : {h n t y : ℕ} {a b : Mem} (w : Agreeing h n t y a b) (c : Bool) (f e v : ℕ) → f < n
-    → Agreeing h n t y (mem (withBits c (a .rows) f e) (set (a .entries) (hugeOf h f) v)) (mem (withBits c (b .rows) f e) (set (b .entries) (hugeOf h f) v))
+    → Agreeing h n t y (withEntry (withRows a (withBits c (a .rows) f e)) (hugeOf h f) v) (withEntry (withRows b (withBits c (b .rows) f e)) (hugeOf h f) v)
 block-written {h} w c f e v l =
     entry-set (rows-written w c f e) (hugeOf h f) v
     (frame-entry (w .huge) (record { sized = w .sized; below = l })) (frame-entry (w .huge) (record { sized = w .other; below = l }))

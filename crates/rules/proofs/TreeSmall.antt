@@ -9,7 +9,7 @@ use lib.Dec.{eqb, leb, ltb}
 use lib.Pow.{pow-pos}
 use borrow.Author.Tests.{ltb-true}
 use Rattle.base.specs.Walk.{pick}
-use Rattle.base.specs.Size.{rowsOf}
+use Rattle.base.specs.Size.{rowsPer}
 use Rattle.base.specs.Bits.{blockIs}
 use Rattle.base.proofs.Walks.{pick-both, first-same}
 use Rattle.bitfield_rules.specs.Calls.{firstZeros}
@@ -50,19 +50,19 @@ module _ {h n t y : ℕ} {a b : Mem} (w : Agreeing h n t y a b) where
             (block-written w true f (f + 2 ^ o) (entryOf (a .entries) (hugeOf h f) - 2 ^ o) (omega (arith, k .ends, pow-pos o)));
       }
 
-  module _ (row o : ℕ) (here : row / rowsOf h / t ≡ y) where
-    visited-here : (j : ℕ) → entryAt t (row / rowsOf h) j / t ≡ y
-    visited-here j = visited-ring t (row / rowsOf h) (tree-pos t (w .sized .tree)) j ∙ here
+  module _ (row o : ℕ) (here : row / rowsPer h / t ≡ y) where
+    visited-here : (j : ℕ) → entryAt t (row / rowsPer h) j / t ≡ y
+    visited-here j = visited-ring t (row / rowsPer h) (tree-pos t (w .sized .tree)) j ∙ here
 
     passed-alike : visitsPassed h n t a row o ≡ visitsPassed h n t b row o
     unfolding visitsPassed
-    passed-alike = first-same _ _ t 0 (λ j _ _. ap stops (visit-alike row o (entryAt t (row / rowsOf h) j) (visited-here j)))
+    passed-alike = first-same _ _ t 0 (λ j _ _. ap stops (visit-alike row o (entryAt t (row / rowsPer h) j) (visited-here j)))
 
     pub get-small-alike : Alike h n t y (getSmall h n t a row o) (getSmall h n t b row o)
     unfolding getSmall
     get-small-alike =
         let p = visitsPassed h n t a row o in
-        let x = entryAt t (row / rowsOf h) p in
+        let x = entryAt t (row / rowsPer h) p in
         rw (← passed-alike, ← visit-alike row o x (visited-here p))
         (pick-alike (ltb p t) (λ _. ended-alike row o (p + 1) x (visited-here p) (visit h n a row o x) refl) (λ _. same-alike w (got 7 0 t)))
 

@@ -9,7 +9,7 @@ use lib.Dec.{eqb, leb, ltb}
 use lib.ListN.{take, drop}
 use lib.Pow.{pow-pos, high}
 use borrow.Author.Tests.{eq-eqb, ne-eqb, lt-ltb, le-ltb, le-leb, lt-leb, eqb-true, leb-true}
-use Rattle.base.specs.Size.{Huge, rowsOf}
+use Rattle.base.specs.Size.{Huge, rowsPer}
 use Rattle.base.specs.Bits.{blockIs}
 use Rattle.base.proofs.Walks.{pick-case}
 use Rattle.base.proofs.Sizes.{first-row, rows-frames, frames-fit, pow-divides}
@@ -17,24 +17,21 @@ use Rattle.base.proofs.Frames.{block-of}
 use Rattle.base.proofs.Parts.{block-part}
 use Rattle.bitfield_rules.specs.declared.Placed.{Placed}
 use Rattle.bitfield_rules.specs.Calls.{firstZeros}
-use Rattle.bitfield_rules.proofs.Laws.{Found, search-found}
+use Rattle.bitfield_rules.specs.Means.{FirstClear}
+use Rattle.bitfield_rules.proofs.Laws.{search-found}
 use Rattle.rules.specs.Numbers.{mark, hugeOf}
-use Rattle.rules.specs.State.{mem, entryOf, freeOf, partOf}
+use Rattle.rules.specs.State.{mem, entryOf, freeOf, rowsOf}
 use Rattle.rules.specs.declared.Visit.{Visit}
 use Rattle.rules.specs.declared.Visit.the-variants.{Pass, Damage, Place}
 use Rattle.rules.specs.Get.{searched, visit}
 
 -- the rows from a up to a + s, where a is the first row of huge frame x and s how many it has, are its part
-pub part-is : (h : ℕ) (rs : List ℕ) (x : ℕ) {a s : ℕ} → a ≡ x * rowsOf h → s ≡ rowsOf h → take (a + s - a) (drop a rs) ≡ partOf h rs x
+pub part-is : (h : ℕ) (rs : List ℕ) (x : ℕ) {a s : ℕ} → a ≡ x * rowsPer h → s ≡ rowsPer h → take (a + s - a) (drop a rs) ≡ rowsOf h rs x
 part-is h rs x {a} {s} p q = rw (add-sub-cancel-left a s, p, q)
 
 -- the first frame of a huge frame that a get looks at is far below a word's end
 pub first-low : {h : ℕ} → Huge h → (x : ℕ) → x < 1048576 → x * 2 ^ h ≤ 1048576 * 2048
 first-low H x l = let m : x ≤ 1048576 = omega arith in mul-le-mul m (frames-fit H)
-
--- and so is its first row
-pub row-low : {h : ℕ} → Huge h → (x : ℕ) → x < 1048576 → x * rowsOf h ≤ 1048576 * 32
-row-low {h} H x l = omega (arith, rw (rows-frames H) at (first-low H x l))
 
 -- ---- a visit by its cases
 
@@ -66,7 +63,7 @@ pub record Looked (h n : ℕ) (rs es : List ℕ) (row o x size first : ℕ) (fou
   pub enough : size ≤ entryOf es x
   pub first-is : first ≡ x * 2 ^ h
   pub present : first < n
-  pub found-is : found ≡ firstZeros h (partOf h rs x) row o
+  pub found-is : found ≡ firstZeros h (rowsOf h rs x) row o
 
 module _ {h n : ℕ} {rs es : List ℕ} {row o x size first : ℕ} {found : Placed} (k : Looked h n rs es row o x size first found) where
   -- the visit answers as that search leads to
@@ -90,7 +87,7 @@ module _ {h n : ℕ} {rs es : List ℕ} {row o x size first : ℕ} {found : Plac
     -- it ends in the huge frame, and so far below a word's end
     pub block-low : Huge h → x < 1048576 → first + found .place + size ≤ 1048576 * 2048 + 2048
     block-low H l =
-        let w = search-found H (partOf h rs x) row o (found .code) (found .place) (sym (k .found-is)) done .block .ends in
+        let w = search-found H (rowsOf h rs x) row o (found .code) (found .place) (sym (k .found-is)) done .block .ends in
         omega (arith, k .first-is, k .size-is, first-low H x l, frames-fit H)
 
   -- ---- none is found
@@ -115,7 +112,7 @@ pub record Free (h n : ℕ) (rs es : List ℕ) (o x f : ℕ) : Type 0 where
 
 module _ {h : ℕ} (H : Huge h) (n : ℕ) (rs es : List ℕ) (row o x f : ℕ) where
   -- from what a search of the huge frame found
-  found-free : 2 ^ o ≤ entryOf es x → (p : ℕ) → Found h (partOf h rs x) row o p → f ≡ x * 2 ^ h + p → f + 2 ^ o ≤ n → Free h n rs es o x f
+  found-free : 2 ^ o ≤ entryOf es x → (p : ℕ) → FirstClear h (rowsOf h rs x) row o p → f ≡ x * 2 ^ h + p → f + 2 ^ o ≤ n → Free h n rs es o x f
   found-free l p w at ends =
       let size = pow-pos o in
       let last = w .block .ends in
@@ -124,7 +121,7 @@ module _ {h : ℕ} (H : Huge h) (n : ℕ) (rs es : List ℕ) (row o x f : ℕ) w
         huge = rw at (high x h (omega arith));
         ends = ends;
         aligned = rw (at, ← pow-divides o h (w .block .order), ← mul-assoc) (mul-add-mod-self-right (x * 2 ^ (h - o)) (2 ^ o) p ∙ w .block .aligned);
-        clear = rw (at, ← first-row H x) (sym (block-part false rs (x * rowsOf h) (rowsOf h) p (2 ^ o) (rw (← rows-frames H) last)) ∙ block-of false (partOf h rs x) p (2 ^ o) (w .clear));
+        clear = rw (at, ← first-row H x) (sym (block-part false rs (x * rowsPer h) (rowsPer h) p (2 ^ o) (rw (← rows-frames H) last)) ∙ block-of false (rowsOf h rs x) p (2 ^ o) (w .clear));
       }
 
   -- an answer that is this block shows it to be free
@@ -147,7 +144,7 @@ module _ {h : ℕ} (H : Huge h) (n : ℕ) (rs es : List ℕ) (row o x f : ℕ) w
       e = entryOf es x
 
       a : Placed
-      a = firstZeros h (partOf h rs x) row o
+      a = firstZeros h (rowsOf h rs x) row o
 
       counts : 2 ^ o ≤ freeOf e → 2 ^ o ≤ e
       counts = pick-case (λ (c : ℕ). 2 ^ o ≤ c → 2 ^ o ≤ e) (eqb e mark) (λ _ l. omega (arith, pow-pos o)) (λ _ l. l)
@@ -155,7 +152,7 @@ module _ {h : ℕ} (H : Huge h) (n : ℕ) (rs es : List ℕ) (row o x f : ℕ) w
       placed : leb (2 ^ o) (freeOf e) ≡ true → eqb (a .code) 0 ≡ true → leb (x * 2 ^ h + a .place + 2 ^ o) n ≡ true → IsFree (Place (x * 2 ^ h + a .place))
       placed l z k q =
           let at : f ≡ x * 2 ^ h + a .place = cc in
-          let found = search-found H (partOf h rs x) row o (a .code) (a .place) refl (eqb-true (a .code) 0 z) in
+          let found = search-found H (rowsOf h rs x) row o (a .code) (a .place) refl (eqb-true (a .code) 0 z) in
           found-free (counts (leb-true (2 ^ o) (freeOf e) l)) (a .place) found at (rw at (leb-true (x * 2 ^ h + a .place + 2 ^ o) n k))
 
       passed : IsFree Pass

@@ -5,14 +5,14 @@ use mathlib.Core.List.{List}
 use mathlib.Core.Logic.{⊎-elim}
 use Prim.Native.Nat.{ℕ, _+_, _-_, _*_, _%_, _^_, _≤_, _<_}
 use native.Mathlib.Decide.{decLt, ℕ-discrete}
-use native.Mathlib.Nat.{zero-mod, div-add-mod', div-mul-le-self}
+use native.Mathlib.Nat.{mod-mod, div-add-mod', div-mul-le-self}
 use native.Mathlib.Omega.{arith}
 use lib.Dec.{leb}
 use lib.ListN.{length}
 use lib.Arith.{digits-mod}
 use lib.Pow.{pow-pos}
 use Rattle.base.specs.Walk.{pick, all}
-use Rattle.base.specs.Size.{Huge, rowsOf}
+use Rattle.base.specs.Size.{Huge, rowsPer}
 use Rattle.base.specs.Bits.{bitIs, blockIs}
 use Rattle.base.proofs.Sizes.{rows-frames, first-row, rows-wrap}
 use Rattle.base.proofs.Rests.{mod-sum}
@@ -20,9 +20,10 @@ use Rattle.base.proofs.Parts.{part-long, bit-part, block-part}
 use Rattle.base.proofs.Frames.{block-each, set-not-clear}
 use Rattle.bitfield_rules.specs.declared.Placed.{Placed}
 use Rattle.bitfield_rules.specs.Calls.{origin, distance, firstZeros}
-use Rattle.bitfield_rules.proofs.Laws.{Found, search-found, search-missed, search-code}
+use Rattle.bitfield_rules.specs.Means.{FirstClear}
+use Rattle.bitfield_rules.proofs.Laws.{search-found, search-missed, search-code}
 use Rattle.rules.specs.Numbers.{mark, hugeOf, entriesNeeded}
-use Rattle.rules.specs.State.{Mem, entryOf, partOf}
+use Rattle.rules.specs.State.{Mem, entryOf, rowsOf}
 use Rattle.rules.proofs.Lent.{present-rows}
 use Rattle.rules.specs.declared.Visit.{Visit}
 use Rattle.rules.specs.declared.Visit.the-variants.{Pass, Damage, Place}
@@ -65,18 +66,18 @@ Says h n m row o x (Place a) = FirstOf h n m row o x a
 
 -- a search looks at the places of a huge frame in the order of the blocks' turns
 distance-turn : {h : ℕ} → Huge h → (row o f : ℕ) → distance h row o (f % 2 ^ h) ≡ turnIn h row o f
-distance-turn {h} H row o f = rw (go (leb o 6)) (mod-sum f (2 ^ h - origin h row o * 64) (2 ^ h))
+distance-turn {h} H row o f = rw (go (leb o 6)) (mod-sum f (2 ^ h - origin h row o * 64 % 2 ^ h) (2 ^ h))
   where
-    go : (b : Bool) → pick b (row * 64) 0 % 2 ^ h ≡ pick b (row % rowsOf h) 0 * 64
-    go true = sym (rows-wrap H row)
-    go false = zero-mod (2 ^ h)
+    go : (b : Bool) → pick b (row * 64) 0 % 2 ^ h ≡ pick b (row % rowsPer h) 0 * 64 % 2 ^ h
+    go true = sym (rw (rows-wrap H row) (mod-mod (row * 64) (2 ^ h)))
+    go false = refl
 
 module _ {h n t : ℕ} {m : Mem} (H : Huge h) (c : Consistent h n t m) (row o : ℕ) (low : o < h) (x : ℕ) where
   -- ---- an entry that is a count
   module _ (here : x * 2 ^ h < n) (k : ByCount h n m x) where
     -- the rows that are searched, and the answer
     abbrev part : List ℕ
-    part = partOf h (m .rows) x
+    part = rowsOf h (m .rows) x
 
     abbrev found : Placed
     found = firstZeros h part row o
@@ -84,8 +85,8 @@ module _ {h n t : ℕ} {m : Mem} (H : Huge h) (c : Consistent h n t m) (row o : 
     most : o ≤ h
     most = omega arith
 
-    long : length part ≡ rowsOf h
-    long = part-long (m .rows) (x * rowsOf h) (rowsOf h) (omega (arith, present-rows H (c .sized) x here))
+    long : length part ≡ rowsPer h
+    long = part-long (m .rows) (x * rowsPer h) (rowsPer h) (omega (arith, present-rows H (c .sized) x here))
 
     -- a block that is free has clear bits
     free-clear : (f : ℕ) → BlockOf h n o x f → all (free h n m) (2 ^ o) f ≡ true → blockIs false (m .rows) f (2 ^ o) ≡ true
@@ -100,21 +101,21 @@ module _ {h n t : ℕ} {m : Mem} (H : Huge h) (c : Consistent h n t m) (row o : 
     part-clear : (f : ℕ) → BlockOf h n o x f → all (free h n m) (2 ^ o) f ≡ true → (g : ℕ) → f % 2 ^ h ≤ g → g < f % 2 ^ h + 2 ^ o → bitIs false part g ≡ true
     part-clear f b e =
         let ends = placed-within f o most (b .aligned) .ends in
-        let at : x * rowsOf h * 64 + f % 2 ^ h ≡ f = rw (first-row H x, ← b .huge) (div-add-mod' f (2 ^ h)) in
-        block-each false (partOf h (m .rows) x) (f % 2 ^ h) (2 ^ o)
-        (block-part false (m .rows) (x * rowsOf h) (rowsOf h) (f % 2 ^ h) (2 ^ o) (rw (← rows-frames H) ends) ∙ rw at (free-clear f b e))
+        let at : x * rowsPer h * 64 + f % 2 ^ h ≡ f = rw (first-row H x, ← b .huge) (div-add-mod' f (2 ^ h)) in
+        block-each false (rowsOf h (m .rows) x) (f % 2 ^ h) (2 ^ o)
+        (block-part false (m .rows) (x * rowsPer h) (rowsPer h) (f % 2 ^ h) (2 ^ o) (rw (← rows-frames H) ends) ∙ rw at (free-clear f b e))
 
     -- a block that is found ends at or before N, as all bits from there on are set
-    found-ends : Found h part row o (found .place) → x * 2 ^ h + found .place + 2 ^ o ≤ n
+    found-ends : FirstClear h part row o (found .place) → x * 2 ^ h + found .place + 2 ^ o ≤ n
     found-ends w = elim (decLt n (x * 2 ^ h + found .place + 2 ^ o)) [
       | no l ↦ omega arith
       | yes l ↦
           let g = found .place + (2 ^ o - 1) in
-          let last : x * rowsOf h * 64 + (found .place + (2 ^ o - 1)) ≡ x * 2 ^ h + (found .place + (2 ^ o - 1)) = omega (arith, first-row H x) in
+          let last : x * rowsPer h * 64 + (found .place + (2 ^ o - 1)) ≡ x * 2 ^ h + (found .place + (2 ^ o - 1)) = omega (arith, first-row H x) in
           let size = pow-pos o in
           let ends = w .block .ends in
           let clear : bitIs false (m .rows) (x * 2 ^ h + g) ≡ true =
-          ap (bitIs false (m .rows)) (sym last) ∙ sym (bit-part false (m .rows) (x * rowsOf h) (rowsOf h) g (rw (← rows-frames H) (omega arith))) ∙ w .clear g (omega arith) (omega arith) in
+          ap (bitIs false (m .rows)) (sym last) ∙ sym (bit-part false (m .rows) (x * rowsPer h) (rowsPer h) g (rw (← rows-frames H) (omega arith))) ∙ w .clear g (omega arith) (omega arith) in
           absurd (true≢false (sym (k .past (x * 2 ^ h + g) (omega arith) (omega arith)) ∙ set-not-clear (m .rows) (x * 2 ^ h + g) ∙ ap not clear))
     ]
 

@@ -8,32 +8,27 @@ use Rattle.rules.specs.declared.Got.{Got}
 use Rattle.rules.specs.declared.Stats.{Stats as Statistics}
 use Rattle.rules.specs.State.{Mem}
 use Rattle.rules.specs.Refusals.{frameRefusal}
-use Rattle.rules.specs.Get.{get, getAt}
-use Rattle.rules.specs.Put.{put}
-use Rattle.rules.specs.Queries.{isFree, stats, statsAt}
-use Rattle.rules.specs.Audit.{audit}
-use Rattle.rules.specs.Recover.{recover}
-use Rattle.rules.specs.Room.{room, treeRun}
+use Rattle.rules.specs.Calls.{get, getAt, put, isFree, stats, statsAt, audit, recover, room, treeRun}
 
 -- "get with a frame, put, is_free": the calls on a block
-pub data OnBlock : Type 0 where
-  GetAt Put IsFree : OnBlock
+pub data BlockCall : Type 0 where
+  GetAt Put IsFree : BlockCall
 
 -- "stats_at, room, tree run": the calls on a frame
-pub data OnFrame : Type 0 where
-  StatsAt : (order : ℕ) → OnFrame
-  Room TreeRun : OnFrame
+pub data FrameCall : Type 0 where
+  StatsAt : (order : ℕ) → FrameCall
+  Room TreeRun : FrameCall
 
 -- the calls that read everything
-pub data OnAll : Type 0 where
-  Stats Audit Recover : OnAll
+pub data AllCall : Type 0 where
+  Stats Audit Recover : AllCall
 
 -- a call, with what it is asked besides N and T
 pub data Call : Type 0 where
   Get : (row order : ℕ) → Call
-  Block : OnBlock → (frame order : ℕ) → Call
-  Frame : OnFrame → (frame : ℕ) → Call
-  All : OnAll → Call
+  OnBlock : BlockCall → (frame order : ℕ) → Call
+  OnFrame : FrameCall → (frame : ℕ) → Call
+  OnAll : AllCall → Call
 
 abbrev pub gotNumbers : Got → List ℕ
 gotNumbers r = r .code ∷ r .frame ∷ r .probes ∷ []
@@ -44,15 +39,15 @@ statsNumbers r = r .code ∷ r .«free_frames» ∷ r .«free_huge» ∷ r .«fr
 -- the numbers that a call answers, its code first, and the memory that it leaves; a tree run's code is that of the call beside it
 unfoldable pub called : ℕ → ℕ → ℕ → Mem → Call → Out (List ℕ) Mem
 called h n t m (Get row o) = out (gotNumbers (get h n t m row o .answer)) (get h n t m row o .left)
-called h n t m (Block GetAt f o) = out (gotNumbers (getAt h n t m f o .answer)) (getAt h n t m f o .left)
-called h n t m (Block Put f o) = out (put h n t m f o .answer ∷ []) (put h n t m f o .left)
-called h n t m (Block IsFree f o) = out (isFree h n t m f o .code ∷ pick (isFree h n t m f o .yes) 1 0 ∷ []) m
-called h n t m (Frame (StatsAt o) f) = out (statsNumbers (statsAt h n t m f o)) m
-called h n t m (Frame Room f) = out (room h n t m f .answer ∷ room h n t m f .left) m
-called h n t m (Frame TreeRun f) = out (frameRefusal h n t m f ∷ treeRun h n t m f) m
-called h n t m (All Stats) = out (statsNumbers (stats h n t m)) m
-called h n t m (All Audit) = out (audit h n t m .code ∷ audit h n t m .huge ∷ audit h n t m .reason ∷ []) m
-called h n t m (All Recover) = out (recover h n t m .answer .code ∷ recover h n t m .answer .entries ∷ recover h n t m .answer .bitfields ∷ []) (recover h n t m .left)
+called h n t m (OnBlock GetAt f o) = out (gotNumbers (getAt h n t m f o .answer)) (getAt h n t m f o .left)
+called h n t m (OnBlock Put f o) = out (put h n t m f o .answer ∷ []) (put h n t m f o .left)
+called h n t m (OnBlock IsFree f o) = out (isFree h n t m f o .code ∷ pick (isFree h n t m f o .yes) 1 0 ∷ []) m
+called h n t m (OnFrame (StatsAt o) f) = out (statsNumbers (statsAt h n t m f o)) m
+called h n t m (OnFrame Room f) = out (room h n t m f .answer ∷ room h n t m f .left) m
+called h n t m (OnFrame TreeRun f) = out (frameRefusal h n t m f ∷ treeRun h n t m f) m
+called h n t m (OnAll Stats) = out (statsNumbers (stats h n t m)) m
+called h n t m (OnAll Audit) = out (audit h n t m .code ∷ audit h n t m .huge ∷ audit h n t m .reason ∷ []) m
+called h n t m (OnAll Recover) = out (recover h n t m .answer .code ∷ recover h n t m .answer .entries ∷ recover h n t m .answer .bitfields ∷ []) (recover h n t m .left)
 
 abbrev pub code : ℕ → ℕ → ℕ → Mem → Call → ℕ
 code h n t m c = getD (called h n t m c .answer) 0 0

@@ -1,5 +1,6 @@
 -- Document 01, "Numbers and memory": consistent states, and which frames are free.
-use Rattle.rules.specs.Words.{_≡_, _⊎_, Bool, true, false, not, _&&_, ℕ, _+_, _*_, _^_, _≤_, _<_, eqb, leb, ltb, length, getD, bitIs, mark, hugeOf, entriesNeeded, Sized, Mem, entryOf, clearOf}
+use Rattle.rules.specs.State.{lengthsOf}
+use Rattle.rules.specs.Words.{_≡_, _⊎_, Bool, true, false, not, _&&_, ℕ, _+_, _*_, _^_, _≤_, _<_, eqb, leb, ltb, getD, bitIs, mark, hugeOf, entriesNeeded, Sized, Mem, entryOf, clearOf}
 
 -- rows and entries of the widths that the slices have
 pub record Fits (m : Mem) : Type 0 where
@@ -20,7 +21,7 @@ pub record ByCount (h n : ℕ) (m : Mem) (x : ℕ) : Type 0 where
 
 -- "each present huge frame either .. or ..", "absent entries are 0", in memory that is large enough and of the slices' widths
 pub record Consistent (h n t : ℕ) (m : Mem) : Type 0 where
-  pub sized : Sized h n t (length (m .rows)) (length (m .entries))
+  pub sized : Sized h n t (lengthsOf m)
   pub fits : Fits m
   pub present : (x : ℕ) → x * 2 ^ h < n → ByMark h n m x ⊎ ByCount h n m x
   pub absent : (x : ℕ) → n ≤ x * 2 ^ h → x < entriesNeeded h n t → entryOf (m .entries) x ≡ 0

@@ -1,23 +1,26 @@
 -- What calls make of states. Demand 2: on a consistent state, what each call answers in terms of free and held frames, and which frames it turns.
+pub use Rattle.base.specs.Ring.{stepsTo}
 use Rattle.bitfield_rules.specs.Calls.{answered}
-use Rattle.rules.specs.Words.{_≡_, _⊎_, Bool, true, false, not, _&&_, _||_, ℕ, _+_, _-_, _*_, _/_, _%_, _^_, _≤_, _<_, eqb, leb, ltb, pick, all, count, out, unless, Huge, rowsOf, mark, hugeOf, treeOf, topOrder, ceil, treesNeeded, entriesNeeded, Mem, blockRefusal, startRefusal, frameRefusal, got, statistics, entryOf, fault, recovered}
+use Rattle.rules.specs.Words.{_≡_, _⊎_, Bool, true, false, not, _&&_, _||_, ℕ, _+_, _*_, _/_, _%_, _^_, _≤_, _<_, eqb, leb, ltb, pick, all, count, out, unless, Huge, rowsPer, mark, hugeOf, treeOf, topOrder, ceil, treesNeeded, entriesNeeded, groupOf, Mem, blockRefusal, startRefusal, frameRefusal, got, statistics, entryOf, entriesAre, fault, recovered}
 use Rattle.rules.specs.Call.{Call, left}
-use Rattle.rules.specs.Numbers.{groupOf}
-use Rattle.rules.specs.State.{entriesAre}
-use Rattle.rules.specs.Starts.{freeAll, reserveAll}
-use Rattle.rules.specs.Get.{get, getAt}
-use Rattle.rules.specs.Put.{put}
-use Rattle.rules.specs.Queries.{isFree, stats, statsAt}
-use Rattle.rules.specs.Audit.{audit}
-use Rattle.rules.specs.Recover.{recover}
+use Rattle.rules.specs.Calls.{get, getAt, put, isFree, stats, statsAt, freeAll, reserveAll, audit, recover}
+use Rattle.rules.specs.Audit.{reason}
 use Rattle.rules.specs.Consistent.{Fits, Consistent, free, held, inBlock}
+
+-- an audit that is done answers x and r: huge frame x has that reason (Audit.antt has the five), and none before it has any; where r is 0, none has
+pub record Audited (h n t : ℕ) (m : Mem) (x r : ℕ) : Type 0 where
+  pub has : reason h n m x ≡ r
+  pub needed : x < entriesNeeded h n t
+  pub first : (y : ℕ) → y < x → reason h n m y ≡ 0
+  pub clean : r ≡ 0 → (x ≡ 0) × ((y : ℕ) → y < entriesNeeded h n t → reason h n m y ≡ 0)
 
 -- of any memory of the slices' widths
 pub record States (h n t : ℕ) (m : Mem) : Type 0 where
   -- the two starts give consistent states, with all frames free, or all held
   pub starts-free : freeAll h n t m .answer ≡ 0 → Consistent h n t (freeAll h n t m .left) × ((f : ℕ) → f < n → free h n (freeAll h n t m .left) f ≡ true)
   pub starts-held : reserveAll h n t m .answer ≡ 0 → Consistent h n t (reserveAll h n t m .left) × ((f : ℕ) → f < n → free h n (reserveAll h n t m .left) f ≡ false)
-  -- a clean audit is exactly a consistent state
+  -- an audit names the first huge frame that has a reason, and a clean one is exactly a consistent state
+  pub audits-first : (x r : ℕ) → audit h n t m ≡ fault 0 x r → Audited h n t m x r
   pub audits : (audit h n t m ≡ fault 0 0 0 → Consistent h n t m) × (Consistent h n t m → audit h n t m ≡ fault 0 0 0)
   -- after a recover that is done the state is consistent, and no frame's being free or held has changed; a consistent state it leaves as it is, and says so
   pub recovers : recover h n t m .answer .code ≡ 0 → Consistent h n t (recover h n t m .left) × ((f : ℕ) → free h n (recover h n t m .left) f ≡ free h n m f)
@@ -28,13 +31,9 @@ pub record States (h n t : ℕ) (m : Mem) : Type 0 where
 abbrev pub Consistency : Type 0
 Consistency = (h n t : ℕ) (m : Mem) → Huge h → Fits m → States h n t m
 
--- the order of a get's search: steps forward from s to p, modulo k
-abbrev pub stepsTo : ℕ → ℕ → ℕ → ℕ
-stepsTo k s p = (p + (k - s % k)) % k
-
--- .. how many huge frames of the tree come before frame f's: "from the start row's huge frame", from order 9 up "from the group holding" it, "wrapping"
+-- the order of a get's search: how many huge frames of the tree come before frame f's, "from the start row's huge frame", from order 9 up "from the group holding" it, "wrapping"
 abbrev pub round : ℕ → ℕ → ℕ → ℕ → ℕ → ℕ
-round h t row o f = stepsTo t (row / rowsOf h / groupOf h o * groupOf h o) (hugeOf h f)
+round h t row o f = stepsTo t (row / rowsPer h / groupOf h o * groupOf h o) (hugeOf h f)
 
 -- .. the block with the lesser number comes first; in a huge frame "orders 0 to 6: from (start row mod 8), wrapping", "7 and 8: from row 0"
 abbrev pub rank : ℕ → ℕ → ℕ → ℕ → ℕ → ℕ

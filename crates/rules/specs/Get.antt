@@ -5,14 +5,14 @@ use Prim.Native.Nat.{ℕ, _*_, _^_, _+_, _-_, _/_, _%_}
 use lib.Dec.{eqb, leb, ltb}
 use Rattle.base.specs.Walk.{pick, first, written}
 use Rattle.base.specs.Code.{Out, out, unrefused}
-use Rattle.base.specs.Size.{rowsOf}
+use Rattle.base.specs.Size.{rowsPer}
 use Rattle.base.specs.Bits.{blockIs, withBits}
 use Rattle.rules.specs.declared.Got.{Got}
 use Rattle.rules.specs.Numbers.{mark, hugeOf, present, groupOf}
 use Rattle.rules.specs.Refusals.{blockRefusal, startRefusal}
 use Rattle.bitfield_rules.specs.declared.Placed.{Placed}
 use Rattle.bitfield_rules.specs.Calls.{firstZeros}
-use Rattle.rules.specs.State.{Mem, withRows, withEntry, onEntries, entryOf, freeOf, partOf, entriesAre}
+use Rattle.rules.specs.State.{Mem, withRows, withEntry, onEntries, entryOf, freeOf, rowsOf, entriesAre}
 use Rattle.rules.specs.declared.Visit.{Visit}
 use Rattle.rules.specs.declared.Visit.the-variants.{Pass, Damage, Place}
 
@@ -37,7 +37,7 @@ eligible es o x = leb (2 ^ o) (freeOf (entryOf es x))
 unfoldable pub visit : ℕ → ℕ → Mem → ℕ → ℕ → ℕ → Visit
 visit h n m row o x =
     pick (eligible (m .entries) o x)
-    (pick (present h n x) (searched h n (entryOf (m .entries) x) x o (firstZeros h (partOf h (m .rows) x) row o)) Damage)
+    (pick (present h n x) (searched h n (entryOf (m .entries) x) x o (firstZeros h (rowsOf h (m .rows) x) row o)) Damage)
     Pass
 
 -- whether a visit ends the get
@@ -53,7 +53,7 @@ entryAt t x j = x / t * t + (x % t + j) % t
 -- how many visits pass before one that ends the get
 unfoldable pub visitsPassed : ℕ → ℕ → ℕ → Mem → ℕ → ℕ → ℕ
 unfolding visit
-visitsPassed h n t m row o = first (λ j. stops (visit h n m row o (entryAt t (row / rowsOf h) j))) t 0
+visitsPassed h n t m row o = first (λ j. stops (visit h n m row o (entryAt t (row / rowsPer h) j))) t 0
 
 -- what the visit that ends the get answers, after p visits with itself
 abbrev pub ended : ℕ → Mem → ℕ → ℕ → Visit → Out Got Mem
@@ -66,7 +66,7 @@ unfoldable pub getSmall : ℕ → ℕ → ℕ → Mem → ℕ → ℕ → Out Go
 unfolding visit visitsPassed
 getSmall h n t m row o =
     pick (ltb (visitsPassed h n t m row o) t)
-    (ended h m o (visitsPassed h n t m row o + 1) (visit h n m row o (entryAt t (row / rowsOf h) (visitsPassed h n t m row o))))
+    (ended h m o (visitsPassed h n t m row o + 1) (visit h n m row o (entryAt t (row / rowsPer h) (visitsPassed h n t m row o))))
     (out (got 7 0 t) m)
 
 -- the first entry of the group that is visited after j others: "from the group holding the start row's huge frame x, wrapping" in its tree
@@ -86,9 +86,9 @@ takeGroup h n es at g probes =
 unfoldable pub getHuge : ℕ → ℕ → ℕ → List ℕ → ℕ → ℕ → Out Got (List ℕ)
 unfolding groupsPassed takeGroup
 getHuge h n t es row o =
-    pick (ltb (groupsPassed h es t (groupOf h o) (row / rowsOf h)) (t / groupOf h o))
-    (takeGroup h n es (groupAt t (groupOf h o) (row / rowsOf h) (groupsPassed h es t (groupOf h o) (row / rowsOf h))) (groupOf h o)
-    (groupsPassed h es t (groupOf h o) (row / rowsOf h) + 1))
+    pick (ltb (groupsPassed h es t (groupOf h o) (row / rowsPer h)) (t / groupOf h o))
+    (takeGroup h n es (groupAt t (groupOf h o) (row / rowsPer h) (groupsPassed h es t (groupOf h o) (row / rowsPer h))) (groupOf h o)
+    (groupsPassed h es t (groupOf h o) (row / rowsPer h) + 1))
     (out (got 7 0 (t / groupOf h o)) es)
 
 -- "With a frame. Entry marked or below 2^order is 7; bits not all clear is 7, or 8 if the count is above 512"

@@ -1,9 +1,7 @@
 -- Of each call, on any memory: its refusal numbers, and what it never touches.
 use Rattle.rules.specs.Words.{_≡_, Bool, false, not, _||_, List, [], _∷_, ℕ, suc, _+_, _*_, _%_, _^_, _≤_, eqb, leb, ltb, length, getD, replicate, pick, orElse, Huge, isTree, topOrder, rowsNeeded, entriesNeeded, Mem, entryOf}
-use Rattle.rules.specs.Call.{OnBlock, OnFrame, OnAll, Call, called, code, left}
-use Rattle.rules.specs.Get.{getHuge, getHugeAt, getSmall, getSmallAt}
-use Rattle.rules.specs.Put.{putHuge, putSmall}
-use Rattle.rules.specs.Recover.{recoverAll}
+use Rattle.rules.specs.Call.{BlockCall, FrameCall, AllCall, Call, called, code, left}
+use Rattle.rules.specs.Steps.{steps}
 use Rattle.rules.specs.Starts.{freeAll, reserveAll}
 use Rattle.rules.specs.Room.{orders}
 
@@ -19,20 +17,9 @@ tested h n t m own =
 
 unfoldable pub own : ℕ → ℕ → ℕ → Call → List Bool
 own h n t (Call.Get row o) = ltb (topOrder h t) o ∷ leb n (row * 64) ∷ []
-own h n t (Call.Block c f o) = ltb (topOrder h t) o ∷ ltb n (f + 2 ^ o) ∷ not (eqb (f % 2 ^ o) 0) ∷ []
-own h n t (Call.Frame c f) = false ∷ leb n f ∷ []
-own h n t (Call.All c) = []
-
--- past them 7 and 8, "as the steps say"
-unfoldable pub steps : ℕ → ℕ → ℕ → Mem → Call → ℕ
-steps h n t m (Call.Get row o) = pick (ltb o h) (getSmall h n t m row o .answer .code) (getHuge h n t (m .entries) row o .answer .code)
-steps h n t m (Call.Block OnBlock.GetAt f o) = pick (ltb o h) (getSmallAt h m f o .answer .code) (getHugeAt h (m .entries) f o .answer .code)
-steps h n t m (Call.Block OnBlock.Put f o) = pick (ltb o h) (putSmall h m f o .answer) (putHuge h (m .entries) f o .answer)
-steps h n t m (Call.Block OnBlock.IsFree f o) = 0
-steps h n t m (Call.Frame c f) = 0
-steps h n t m (Call.All OnAll.Stats) = 0
-steps h n t m (Call.All OnAll.Audit) = 0
-steps h n t m (Call.All OnAll.Recover) = recoverAll h n t m .answer .code
+own h n t (Call.OnBlock c f o) = ltb (topOrder h t) o ∷ ltb n (f + 2 ^ o) ∷ not (eqb (f % 2 ^ o) 0) ∷ []
+own h n t (Call.OnFrame c f) = false ∷ leb n f ∷ []
+own h n t (Call.OnAll c) = []
 
 -- what a call keeps to that answers `code` and leaves `left`: each number is given exactly when the document says, a refusal writes nothing, and what lies beyond is kept
 pub record Keeps (h n t : ℕ) (m : Mem) (number code : ℕ) (left : Mem) : Type 0 where
@@ -45,20 +32,21 @@ pub record Keeps (h n t : ℕ) (m : Mem) (number code : ℕ) (left : Mem) : Type
 -- the fields of an answer besides its number; a refused tree run has none
 unfoldable pub fields : ℕ → Call → ℕ
 fields h (Call.Get row o) = 2
-fields h (Call.Block OnBlock.GetAt f o) = 2
-fields h (Call.Block OnBlock.Put f o) = 0
-fields h (Call.Block OnBlock.IsFree f o) = 1
-fields h (Call.Frame (OnFrame.StatsAt o) f) = 3
-fields h (Call.Frame OnFrame.Room f) = orders h
-fields h (Call.Frame OnFrame.TreeRun f) = 0
-fields h (Call.All OnAll.Stats) = 3
-fields h (Call.All OnAll.Audit) = 2
-fields h (Call.All OnAll.Recover) = 2
+fields h (Call.OnBlock BlockCall.GetAt f o) = 2
+fields h (Call.OnBlock BlockCall.Put f o) = 0
+fields h (Call.OnBlock BlockCall.IsFree f o) = 1
+fields h (Call.OnFrame (FrameCall.StatsAt o) f) = 3
+fields h (Call.OnFrame FrameCall.Room f) = orders h
+fields h (Call.OnFrame FrameCall.TreeRun f) = 0
+fields h (Call.OnAll AllCall.Stats) = 3
+fields h (Call.OnAll AllCall.Audit) = 2
+fields h (Call.OnAll AllCall.Recover) = 2
 
 -- "a refusal returns its number with every other field 0", "an empty part for tree run": by 1 to 6
 abbrev pub Bare : ℕ → ℕ → ℕ → Mem → Call → Type 0
 Bare h n t m c = (tested h n t m (own h n t c) ≡ 0 → ⊥) → called h n t m c .answer ≡ tested h n t m (own h n t c) ∷ replicate (fields h c) 0
 
+-- 1 to 6 by these tests, and past them 7 and 8 by those of `steps`
 abbrev pub CallsKeep : Type 0
 CallsKeep =
     (h n t : ℕ) (m : Mem) → Huge h

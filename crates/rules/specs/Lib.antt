@@ -9,11 +9,15 @@ pub mod Audit
 pub mod Recover
 pub mod Room
 pub mod Calls
+pub mod Contracts
 pub mod Call
 pub mod Words
 pub mod Consistent
+pub mod Steps
 pub mod Keeps
 pub mod OneTree
 pub mod Exact
+pub mod Marks
+pub mod Same
 pub mod Runs
 pub mod Results

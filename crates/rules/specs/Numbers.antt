@@ -3,7 +3,7 @@ use mathlib.Core.Bool.{Bool}
 use Prim.Native.Nat.{ℕ, _+_, _-_, _*_, _/_, _%_, _^_}
 use lib.Dec.{eqb, leb, ltb}
 use Rattle.base.specs.Walk.{first}
-use Rattle.base.specs.Size.{rowsOf}
+use Rattle.base.specs.Size.{rowsPer}
 use Rattle.rules.specs.declared.Init.{Init}
 use Rattle.rules.specs.declared.Init.the-variants.{FreeAll, AllocAll}
 
@@ -54,7 +54,7 @@ ceil a b = (a + (b - 1)) / b
 
 -- "lent rows: at least 8·ceil(N/512). Lent entries: at least T·ceil(N/512T)"
 abbrev pub rowsNeeded : ℕ → ℕ → ℕ
-rowsNeeded h n = rowsOf h * ceil n (2 ^ h)
+rowsNeeded h n = rowsPer h * ceil n (2 ^ h)
 
 abbrev pub treesNeeded : ℕ → ℕ → ℕ → ℕ
 treesNeeded h n t = ceil n (2 ^ h * t)

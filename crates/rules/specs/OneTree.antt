@@ -1,17 +1,17 @@
 -- Document 01, "One tree at a time".
-use Rattle.rules.specs.Words.{_≡_, ℕ, _*_, _/_, _<_, getD, Huge, rowsOf, treeOf, rowsNeeded, Mem, sizesRefusal, entryOf}
+use Rattle.rules.specs.Words.{_≡_, ℕ, _*_, _/_, _<_, getD, Huge, rowsPer, treeOf, rowsNeeded, Mem, sizesRefusal, entryOf}
 use Rattle.rules.specs.Call.{Call, called, left}
 
 -- a call is on tree y; "stats, audit, recover .. read everything and are not covered"
 unfoldable pub On : ℕ → ℕ → ℕ → Call → Type 0
 On h t y (Call.Get row o) = treeOf h t (row * 64) ≡ y
-On h t y (Call.Block c f o) = treeOf h t f ≡ y
-On h t y (Call.Frame c f) = treeOf h t f ≡ y
-On h t y (Call.All c) = ⊥
+On h t y (Call.OnBlock c f o) = treeOf h t f ≡ y
+On h t y (Call.OnFrame c f) = treeOf h t f ≡ y
+On h t y (Call.OnAll c) = ⊥
 
 -- two states agree on tree y: on its rows, as far as they are needed, and its entries
 pub record Agree (h n t y : ℕ) (a b : Mem) : Type 0 where
-  pub rows : (i : ℕ) → i < rowsNeeded h n → i / (rowsOf h * t) ≡ y → getD (a .rows) i 0 ≡ getD (b .rows) i 0
+  pub rows : (i : ℕ) → i < rowsNeeded h n → i / (rowsPer h * t) ≡ y → getD (a .rows) i 0 ≡ getD (b .rows) i 0
   pub entries : (x : ℕ) → x / t ≡ y → entryOf (a .entries) x ≡ entryOf (b .entries) x
 
 -- "two states .. that agree on one tree's rows and entries give equal answers .. and equal rows and entries there afterwards. No other tree is written"

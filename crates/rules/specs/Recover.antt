@@ -6,7 +6,7 @@ use lib.Dec.{eqb}
 use lib.ListN.{length, getD}
 use Rattle.base.specs.Walk.{pick, all, count, written}
 use Rattle.base.specs.Code.{Out, out, unrefused}
-use Rattle.base.specs.Size.{rowsOf}
+use Rattle.base.specs.Size.{rowsPer}
 use Rattle.rules.specs.Numbers.{mark, ceil, rowsNeeded, entriesNeeded}
 use Rattle.rules.specs.State.{Mem, withRows, withEntries, entryOf, clearOf}
 use Rattle.rules.specs.Audit.{reason}
@@ -32,7 +32,7 @@ entryAfter h m x = pick (eqb (entryOf (m .entries) x) mark) mark (clearOf h (m .
 
 -- "bits under a mark are cleared": row i afterwards
 abbrev pub rowAfter : ℕ → Mem → ℕ → ℕ
-rowAfter h m i = pick (eqb (entryOf (m .entries) (i / rowsOf h)) mark) 0 (getD (m .rows) i 0)
+rowAfter h m i = pick (eqb (entryOf (m .entries) (i / rowsPer h)) mark) 0 (getD (m .rows) i 0)
 
 -- the rows and entries of the present huge frames afterwards
 unfoldable pub mended : ℕ → ℕ → Mem → Mem
@@ -44,7 +44,7 @@ entriesDiffer es es′ = count (λ x. not (eqb (entryOf es x) (entryOf es′ x))
 
 -- ".. and bitfields": runs of eight rows
 unfoldable pub bitfieldsDiffer : ℕ → List ℕ → List ℕ → ℕ
-bitfieldsDiffer h rs rs′ = count (λ x. not (all (λ i. eqb (getD rs i 0) (getD rs′ i 0)) (rowsOf h) (x * rowsOf h))) (length rs / rowsOf h) 0
+bitfieldsDiffer h rs rs′ = count (λ x. not (all (λ i. eqb (getD rs i 0) (getD rs′ i 0)) (rowsPer h) (x * rowsPer h))) (length rs / rowsPer h) 0
 
 -- "reports entries and bitfields changed, equal to those that differ before and after"
 abbrev pub differing : ℕ → Mem → Mem → Recovered

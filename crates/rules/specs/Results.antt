@@ -1,37 +1,34 @@
 -- Document 01, "What a reader may conclude" and "Lines to check".
-use Rattle.rules.specs.Words.{_≡_, Bool, true, _&&_, List, [], _∷_, ℕ, _-_, _^_, eqb, replicate, out, hugeOrder, mark, Mem, mem, frameRefusal, entryOf}
-use Rattle.row.specs.declared.Found.{Found}
-use Rattle.rules.specs.declared.Counts.{Counts}
+use Rattle.rules.specs.Words.{_≡_, Bool, true, _&&_, List, [], _∷_, ℕ, _-_, _^_, eqb, replicate, hugeOrder, mark, Mem, mem, entryOf}
 use Rattle.row.specs.Row as row
-use Rattle.bitfield_rules.specs.Calls as bitfield
-use Rattle.rules.specs.Get.{get, getAt}
+use Rattle.row.specs.Contracts.{FindsInRow}
+use Rattle.bitfield_rules.specs.Contracts.{Sets, Fills, Toggles, TellsZero, CountsZeros, FindsZeros, SetsFirstZeros}
 use Rattle.rules.specs.Put.{put}
-use Rattle.rules.specs.Queries.{isFree, stats, statsAt}
-use Rattle.rules.specs.Starts.{freeAll, reserveAll}
-use Rattle.rules.specs.Audit.{audit}
-use Rattle.rules.specs.Recover.{recover}
-use Rattle.rules.specs.Room.{room, treeRun}
+use Rattle.rules.specs.Contracts.{Gets, GetsAt, Puts, AsksFree, TellsStats, TellsStatsAt, FindsFault, TellsRoom, LendsRun, TellsRunCode, FreesAll, ReservesAll, Recovers}
 
--- "two results satisfying one contract are equal": a result is the answer of a call that only reads, and of any other `out` of its answer and the memory left
-abbrev pub Unique : {A : Type 0} → A → Type 0
-Unique {A} what = (a b : A) → a ≡ what → b ≡ what → a ≡ b
+-- "two results satisfying one contract are equal": of a contract on an answer, and of one on an answer and what is left
+abbrev pub One : {A : Type 0} → (A → Type 0) → Type 0
+One {A} C = (a b : A) → C a → C b → a ≡ b
 
--- each public call, by what its contract says
-pub record ResultsAreEqual (n t : ℕ) (m : Mem) (rows : List ℕ) (v f o : ℕ) (b : Bool) : Type 0 where
-  pub starts : Unique (freeAll hugeOrder n t m) × Unique (reserveAll hugeOrder n t m)
-  pub gets : Unique (get hugeOrder n t m f o) × Unique (getAt hugeOrder n t m f o)
-  pub puts : Unique (put hugeOrder n t m f o)
-  pub asks : Unique (isFree hugeOrder n t m f o) × (Unique (stats hugeOrder n t m) × Unique (statsAt hugeOrder n t m f o))
-  pub audits : Unique (audit hugeOrder n t m) × Unique (recover hugeOrder n t m)
-  pub rooms : (a b : Counts) → out (a .code) (a .counts) ≡ room hugeOrder n t m f → out (b .code) (b .counts) ≡ room hugeOrder n t m f → a ≡ b
-  pub tree-runs : Unique (treeRun hugeOrder n t m f) × Unique (frameRefusal hugeOrder n t m f)
-  pub row-searches : (a b : Found) → row.numbersOf a ≡ row.firstZeros v o → row.numbersOf b ≡ row.firstZeros v o → a ≡ b
-  pub searches : Unique (bitfield.firstZeros hugeOrder rows f o) × Unique (bitfield.setFirstZeros hugeOrder rows f o)
-  pub stores : Unique (bitfield.set hugeOrder rows f o b) × (Unique (bitfield.toggle hugeOrder rows f o b) × Unique (bitfield.fill hugeOrder rows b))
-  pub reads : Unique (bitfield.isZero hugeOrder rows f o) × Unique (bitfield.countZeros hugeOrder rows)
+abbrev pub OneLeft : {A B : Type 0} → (A → B → Type 0) → Type 0
+OneLeft {A} {B} C = (a b : A) (l k : B) → C a l → C b k → (a ≡ b) × (l ≡ k)
+
+-- each public call, by its contract's name
+pub record ResultsAreEqual (h n t : ℕ) (m : Mem) (rows : List ℕ) (v f o : ℕ) (b : Bool) : Type 0 where
+  pub starts : OneLeft (FreesAll h n t m) × OneLeft (ReservesAll h n t m)
+  pub gets : OneLeft (Gets h n t m f o) × OneLeft (GetsAt h n t m f o)
+  pub puts : OneLeft (Puts h n t m f o)
+  pub asks : One (AsksFree h n t m f o) × (One (TellsStats h n t m) × One (TellsStatsAt h n t m f o))
+  pub audits : One (FindsFault h n t m) × OneLeft (Recovers h n t m)
+  pub rooms : OneLeft (TellsRoom h n t m f)
+  pub tree-runs : One (LendsRun h n t m f) × One (TellsRunCode h n t m f)
+  pub row-searches : One (FindsInRow v o)
+  pub searches : One (FindsZeros h rows f o) × OneLeft (SetsFirstZeros h rows f o)
+  pub stores : OneLeft (Sets h rows f o b) × (OneLeft (Toggles h rows f o b) × OneLeft (Fills h rows b))
+  pub reads : One (TellsZero h rows f o) × One (CountsZeros h rows)
 
 abbrev pub EqualResults : Type 0
-EqualResults = (n t : ℕ) (m : Mem) (rows : List ℕ) (v f o : ℕ) (b : Bool) → ResultsAreEqual n t m rows v f o b
+EqualResults = (h n t : ℕ) (m : Mem) (rows : List ℕ) (v f o : ℕ) (b : Bool) → ResultsAreEqual h n t m rows v f o b
 
 -- P1 to P9: row v at an order, and the answer's code, place and row; P10 to P12: a put of frame 0, N = 512, T = 1, and its code and the entry left
 pub data Line : Type 0 where

@@ -3,12 +3,12 @@ use mathlib.Core.Bool.{false, Bool, not}
 use mathlib.Core.List.{List}
 use Prim.Native.Nat.{ℕ, _*_, _/_, _^_, _+_}
 use lib.Dec.{eqb}
-use lib.ListN.{getD, set, take, drop}
+use lib.ListN.{length, getD, set, take, drop}
 use Rattle.base.specs.Walk.{pick, count, all, sum}
 use Rattle.base.specs.Code.{Out, out}
-use Rattle.base.specs.Size.{rowsOf}
+use Rattle.base.specs.Size.{rowsPer}
 use Rattle.base.specs.Bits.{bitIs, blockIs, withBits}
-use Rattle.rules.specs.Numbers.{mark}
+use Rattle.rules.specs.Numbers.{mark, rowsNeeded, entriesNeeded}
 
 pub record Mem : Type 0 where
   pub rows : List ℕ
@@ -27,6 +27,21 @@ withEntries m es = record { rows = m .rows; entries = es }
 abbrev pub withEntry : Mem → ℕ → ℕ → Mem
 withEntry m x e = withEntries m (set (m .entries) x e)
 
+-- the lengths of the lent slices, and those of a memory
+pub record Lengths : Type 0 where
+  pub rows : ℕ
+  pub entries : ℕ
+
+abbrev pub lengths : ℕ → ℕ → Lengths
+lengths r e = record { rows = r; entries = e }
+
+abbrev pub lengthsOf : Mem → Lengths
+lengthsOf m = lengths (length (m .rows)) (length (m .entries))
+
+-- those that are needed
+abbrev pub lengthsNeeded : ℕ → ℕ → ℕ → Lengths
+lengthsNeeded h n t = lengths (rowsNeeded h n) (entriesNeeded h n t)
+
 -- the result of a call that changes only entries
 abbrev pub onEntries : {A : Type 0} → Mem → Out A (List ℕ) → Out A Mem
 onEntries m o = out (o .answer) (withEntries m (o .left))
@@ -40,8 +55,8 @@ abbrev pub freeOf : ℕ → ℕ
 freeOf e = pick (eqb e mark) 0 e
 
 -- the rows of huge frame x: from 8 times its number on
-abbrev pub partOf : ℕ → List ℕ → ℕ → List ℕ
-partOf h rs x = take (rowsOf h) (drop (x * rowsOf h) rs)
+abbrev pub rowsOf : ℕ → List ℕ → ℕ → List ℕ
+rowsOf h rs x = take (rowsPer h) (drop (x * rowsPer h) rs)
 
 -- "its number of clear bits": those of huge frame x
 abbrev pub clearOf : ℕ → List ℕ → ℕ → ℕ

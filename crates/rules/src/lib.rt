@@ -47,7 +47,7 @@ pub struct Recovered {
 }
 
 // The room of a tree: the blocks of each order, 0 to 18, that its entries promise.
-pub struct Counts {
+pub struct Rooms {
     pub code: u32,
     pub counts: [usize; 19],
 }

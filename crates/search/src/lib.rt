@@ -2,15 +2,14 @@
 ghost use mathlib.Core.Path.{_≡_};
 ghost use Prim.Native.Nat.{_<_, _≤_};
 ghost use lib.ListN.{length};
-ghost use Rattle.base.specs.Code.{out};
-ghost use Rattle.base.specs.Size.{Huge, rowsOf};
-ghost use Rattle.bitfield_rules.specs.Calls as spec;
+ghost use Rattle.base.specs.Size.{Huge, rowsPer};
+ghost use Rattle.bitfield_rules.specs.Contracts.{FindsZeros, SetsFirstZeros};
 use bitfield_rules::Placed;
 
 // The first clear block of the rows from row start on, wrapping by a mask.
 fn find_in_rows(h: usize, rows: &[u64], start: usize, order: usize) -> Placed
-    requires { ⌜ (Huge h) × (length (now rows) ≡ rowsOf h) × (start < rowsOf h) × (order ≤ 6) ⌝ }
-    ensures { λ r. ⌜ r ≡ spec.firstZeros h (now (rows .entry)) start order ⌝ }
+    requires { ⌜ (Huge h) × (length (now rows) ≡ rowsPer h) × (start < rowsPer h) × (order ≤ 6) ⌝ }
+    ensures { λ r. ⌜ FindsZeros h (now (rows .entry)) start order r ⌝ }
 {
     let count = base::size(h - 6);
     let mut passed = 0;
@@ -30,8 +29,8 @@ fn find_in_rows(h: usize, rows: &[u64], start: usize, order: usize) -> Placed
 
 // The same. Each order gets a loop of its own, as the compiler is given it as a number.
 fn find_by_order(h: usize, rows: &[u64], start: usize, order: usize) -> Placed
-    requires { ⌜ (Huge h) × (length (now rows) ≡ rowsOf h) × (start < rowsOf h) × (order ≤ 6) ⌝ }
-    ensures { λ r. ⌜ r ≡ spec.firstZeros h (now (rows .entry)) start order ⌝ }
+    requires { ⌜ (Huge h) × (length (now rows) ≡ rowsPer h) × (start < rowsPer h) × (order ≤ 6) ⌝ }
+    ensures { λ r. ⌜ FindsZeros h (now (rows .entry)) start order r ⌝ }
 {
     match order {
         0 => find_in_rows(h, rows, start, 0),
@@ -46,8 +45,8 @@ fn find_by_order(h: usize, rows: &[u64], start: usize, order: usize) -> Placed
 
 // The first clear group of rows, from row 0 on.
 fn find_group(h: usize, rows: &[u64], start: usize, order: usize) -> Placed
-    requires { ⌜ (Huge h) × (length (now rows) ≡ rowsOf h) × (6 < order) × (order ≤ h) ⌝ }
-    ensures { λ r. ⌜ r ≡ spec.firstZeros h (now (rows .entry)) start order ⌝ }
+    requires { ⌜ (Huge h) × (length (now rows) ≡ rowsPer h) × (6 < order) × (order ≤ h) ⌝ }
+    ensures { λ r. ⌜ FindsZeros h (now (rows .entry)) start order r ⌝ }
 {
     let groups = base::size(h - order);
     let mut j = 0;
@@ -66,7 +65,7 @@ fn find_group(h: usize, rows: &[u64], start: usize, order: usize) -> Placed
 
 pub fn first_zeros(h: usize, rows: &[u64], start_row: usize, order: usize) -> Placed
     requires { ⌜ Huge h ⌝ }
-    ensures { λ r. ⌜ r ≡ spec.firstZeros h (now (rows .entry)) «start_row» order ⌝ }
+    ensures { λ r. ⌜ FindsZeros h (now (rows .entry)) «start_row» order r ⌝ }
 {
     let code = field::order_code(h, rows.len(), order);
     if code != 0 {
@@ -83,7 +82,7 @@ pub fn first_zeros(h: usize, rows: &[u64], start_row: usize, order: usize) -> Pl
 
 pub fn set_first_zeros(h: usize, rows: &mut [u64], start_row: usize, order: usize) -> Placed
     requires { ⌜ Huge h ⌝ }
-    ensures { λ r. ⌜ out r (now (rows .exit)) ≡ spec.setFirstZeros h (now (rows .entry)) «start_row» order ⌝ }
+    ensures { λ r. ⌜ SetsFirstZeros h (now (rows .entry)) «start_row» order r (now (rows .exit)) ⌝ }
 {
     let found = first_zeros(h, rows, start_row, order);
     if found.code == 0 {

@@ -3,9 +3,8 @@
 ghost use mathlib.Core.Path.{_≡_};
 ghost use mathlib.Core.Bool.{true};
 ghost use Prim.Native.Nat.{_*_, _/_, _%_, _^_, _<_, _≤_};
-ghost use Rattle.base.specs.Size.{Huge, rowsOf};
-ghost use Rattle.rules.specs.Numbers.{rowOf, bitOf, hugeOf, treeAt, treeLog, isTree, topOrder, aligned, rowsNeeded, entriesNeeded, initNumber};
-use rules::Init;
+ghost use Rattle.base.specs.Size.{Huge, rowsPer};
+ghost use Rattle.rules.specs.Numbers.{rowOf, bitOf, hugeOf, treeAt, treeLog, isTree, topOrder, aligned, rowsNeeded, entriesNeeded};
 
 // The bits of a row.
 pub const ROW_BITS: usize = 64;
@@ -18,16 +17,6 @@ pub const FRAMES_MAX: usize = 1_048_576;
 
 // The most huge frames of a tree.
 pub const TREE_MAX: usize = 512;
-
-// The number that stands for a start in a line of `trace`.
-pub fn init_number(init: Init) -> usize
-    ensures { λ r. ⌜ r ≡ initNumber init ⌝ }
-{
-    match init {
-        Init::FreeAll => 0,
-        Init::AllocAll => 1,
-    }
-}
 
 // Whether t is one of the ten tree sizes.
 pub fn is_tree(t: usize) -> bool
@@ -58,12 +47,20 @@ pub fn top_order(h: usize, t: usize) -> usize
     h + tree_log(t)
 }
 
+// The rest of x by 2^k.
+fn rest(x: usize, k: usize) -> usize
+    requires { ⌜ k < 64 ⌝ }
+    ensures { λ r. ⌜ r ≡ x % 2 ^ k ⌝ }
+{
+    x & (base::size(k) - 1)
+}
+
 // Whether a frame is aligned at an order.
 pub fn is_aligned(frame: usize, order: usize) -> bool
     requires { ⌜ order < 64 ⌝ }
     ensures { λ r. ⌜ r ≡ aligned frame order ⌝ }
 {
-    frame & (base::size(order) - 1) == 0
+    rest(frame, order) == 0
 }
 
 // The row of a frame.
@@ -88,6 +85,14 @@ pub fn frame_huge(h: usize, frame: usize) -> usize
     frame >> h
 }
 
+// The place of a frame in its huge frame.
+pub fn frame_place(h: usize, frame: usize) -> usize
+    requires { ⌜ Huge h ⌝ }
+    ensures { λ r. ⌜ r ≡ frame % 2 ^ h ⌝ }
+{
+    rest(frame, h)
+}
+
 // The huge frame of a row.
 pub fn row_huge(h: usize, row: usize) -> usize
     requires { ⌜ Huge h ⌝ }
@@ -106,8 +111,8 @@ pub fn huge_frame(h: usize, huge: usize) -> usize
 
 // The first row of a huge frame.
 pub fn huge_row(h: usize, huge: usize) -> usize
-    requires { ⌜ (Huge h) × (huge * rowsOf h < 2 ^ 64) ⌝ }
-    ensures { λ r. ⌜ r ≡ huge * rowsOf h ⌝ }
+    requires { ⌜ (Huge h) × (huge * rowsPer h < 2 ^ 64) ⌝ }
+    ensures { λ r. ⌜ r ≡ huge * rowsPer h ⌝ }
 {
     huge << (h - 6)
 }
@@ -125,7 +130,7 @@ pub fn huge_child(k: usize, huge: usize) -> usize
     requires { ⌜ k < 10 ⌝ }
     ensures { λ r. ⌜ r ≡ huge % 2 ^ k ⌝ }
 {
-    huge & (base::size(k) - 1)
+    rest(huge, k)
 }
 
 // The first huge frame of a tree.

@@ -56,13 +56,13 @@ module _ (h : ℕ) (rs es : List ℕ) (f o : ℕ) {x : ℕ} (x-is : x ≡ f / 2 
 
       -- that is enough for them
       module _ (enough : s ≤ entryOf es x) where
-        -- where the block was turned, a get is done
-        pub get-done : {r : ℕ} {left : List ℕ} → out r left ≡ toggled rs f o false → r ≡ 0
-            → out (got 0 f 1) (mem left (set es x (entryOf es x - s))) ≡ getSmallAt h (mem rs es) f o
+        -- where the block was turned, a get is done, with the entry lowered
+        pub get-done : {r : ℕ} {left last : List ℕ} → out r left ≡ toggled rs f o false → r ≡ 0 → last ≡ set es x (entryOf es x - 2 ^ o)
+            → out (got 0 f 1) (mem left last) ≡ getSmallAt h (mem rs es) f o
         unfolding getSmallAt
-        get-done turn z =
+        get-done turn z lowered =
             let d = if-turned rs f o false turn z in
-            rw (d .1, d .0, ← x-is, ne-eqb (entryOf es x) mark counted, ← s-is, le-leb s (entryOf es x) enough)
+            rw (lowered, d .1, d .0, ← x-is, ne-eqb (entryOf es x) mark counted, ← s-is, le-leb s (entryOf es x) enough)
 
         module _ {full : ℕ} (full-is : full ≡ 2 ^ h) where
           -- where it was left, and the count is above that of a huge frame, a get is refused with 8
@@ -100,12 +100,12 @@ module _ (h : ℕ) (rs es : List ℕ) (f o : ℕ) {x : ℕ} (x-is : x ≡ f / 2 
 
     -- that has room for the block
     module _ (room : entryOf es x ≤ full - s) {r : ℕ} {left : List ℕ} (turn : out r left ≡ toggled rs f o true) where
-      -- where the block was turned, it is done
-      pub put-done : r ≡ 0 → out 0 (mem left (set es x (entryOf es x + s))) ≡ putCounted h (mem rs es) f o
+      -- where the block was turned, it is done, with the entry raised
+      pub put-done : r ≡ 0 → {last : List ℕ} → last ≡ set es x (entryOf es x + 2 ^ o) → out 0 (mem left last) ≡ putCounted h (mem rs es) f o
       unfolding putCounted
-      put-done z =
+      put-done z raised =
           let d = if-turned rs f o true turn z in
-          rw (d .1, d .0, ← x-is, ← s-is, ← full-is, le-leb (entryOf es x) (full - s) room)
+          rw (raised, d .1, d .0, ← x-is, ← s-is, ← full-is, le-leb (entryOf es x) (full - s) room)
 
       -- where it was left, it is refused with 7
       pub put-free : (r ≡ 0 → ⊥) → out 7 (mem left es) ≡ putCounted h (mem rs es) f o

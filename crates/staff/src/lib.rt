@@ -1,36 +1,33 @@
 // What staff call: is the state sound, put counts right, how much room has a tree, and its entries. Each call takes any
 // numbers and any contents, and a call that is refused writes nothing.
-ghost use mathlib.Core.Path.{_≡_};
-ghost use Rattle.base.specs.Code.{out};
 ghost use Rattle.base.specs.Size.{hugeOrder};
 ghost use Rattle.rules.specs.State.{mem};
-ghost use Rattle.rules.specs.Refusals.{frameRefusal};
-ghost use Rattle.rules.specs.Calls as spec;
-use rules::Counts;
+ghost use Rattle.rules.specs.Contracts.{FindsFault, TellsRoom, LendsRun, TellsRunCode, Recovers};
 use rules::Fault;
 use rules::Recovered;
+use rules::Rooms;
 
 // The first faulty huge frame, and why it is.
 pub fn audit(n: usize, t: usize, rows: &[u64], entries: &[u16]) -> Fault
-    ensures { λ r. ⌜ r ≡ spec.audit hugeOrder n t (mem (now (rows .entry)) (now (entries .entry))) ⌝ }
+    ensures { λ r. ⌜ FindsFault hugeOrder n t (mem (now (rows .entry)) (now (entries .entry))) r ⌝ }
 {
     staff_h::audit(base::HUGE_ORDER, n, t, rows, entries)
 }
 
 // Puts counts right by the bits, and clears the bits under a mark.
 pub fn recover(n: usize, t: usize, rows: &mut [u64], entries: &mut [u16]) -> Recovered
-    ensures { λ r. ⌜ out r (mem (now (rows .exit)) (now (entries .exit))) ≡ spec.recover hugeOrder n t (mem (now (rows .entry)) (now (entries .entry))) ⌝ }
+    ensures { λ r. ⌜ Recovers hugeOrder n t (mem (now (rows .entry)) (now (entries .entry))) r (mem (now (rows .exit)) (now (entries .exit))) ⌝ }
 {
     staff_h::recover(base::HUGE_ORDER, n, t, rows, entries)
 }
 
 // The room of a frame's tree.
-pub fn room(n: usize, t: usize, rows: &[u64], entries: &[u16], frame: usize) -> Counts
-    ensures { λ r. ⌜ out (r .code) (r .counts) ≡ spec.room hugeOrder n t (mem (now (rows .entry)) (now (entries .entry))) frame ⌝ }
+pub fn room(n: usize, t: usize, rows: &[u64], entries: &[u16], frame: usize) -> Rooms
+    ensures { λ r. ⌜ TellsRoom hugeOrder n t (mem (now (rows .entry)) (now (entries .entry))) frame (r .code) (r .counts) ⌝ }
 {
     let mut counts = [0usize; 19];
     let code = staff_h::room(base::HUGE_ORDER, n, t, rows, entries, frame, &mut counts);
-    Counts {
+    Rooms {
         code: code,
         counts: counts,
     }
@@ -38,14 +35,14 @@ pub fn room(n: usize, t: usize, rows: &[u64], entries: &[u16], frame: usize) -> 
 
 // The entries of a frame's tree, as a part of those lent; none where the call is refused.
 pub fn tree_run<'a>(n: usize, t: usize, rows: &[u64], entries: &'a [u16], frame: usize) -> &'a [u16]
-    ensures { λ r. ⌜ now r ≡ spec.treeRun hugeOrder n t (mem (now (rows .entry)) (now (entries .entry))) frame ⌝ }
+    ensures { λ r. ⌜ LendsRun hugeOrder n t (mem (now (rows .entry)) (now (entries .entry))) frame (now r) ⌝ }
 {
     staff_h::tree_run(base::HUGE_ORDER, n, t, rows, entries, frame)
 }
 
 // The number with which the tree run of a frame is refused, or 0.
 pub fn tree_run_code(n: usize, t: usize, rows: &[u64], entries: &[u16], frame: usize) -> u32
-    ensures { λ r. ⌜ r ≡ frameRefusal hugeOrder n t (mem (now (rows .entry)) (now (entries .entry))) frame ⌝ }
+    ensures { λ r. ⌜ TellsRunCode hugeOrder n t (mem (now (rows .entry)) (now (entries .entry))) frame r ⌝ }
 {
     refuse::frame(base::HUGE_ORDER, n, t, rows.len(), entries.len(), frame)
 }

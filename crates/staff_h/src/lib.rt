@@ -1,17 +1,16 @@
 // The calls of `staff` over the huge order h, for callers that have it as a value.
 ghost use mathlib.Core.Path.{_≡_};
 ghost use lib.ListN.{replicate};
-ghost use Rattle.base.specs.Code.{out};
 ghost use Rattle.base.specs.Size.{Huge};
 ghost use Rattle.rules.specs.State.{mem};
 ghost use Rattle.rules.specs.Room.{orders};
-ghost use Rattle.rules.specs.Calls as spec;
+ghost use Rattle.rules.specs.Contracts.{FindsFault, TellsRoom, LendsRun, Recovers};
 use rules::Fault;
 use rules::Recovered;
 
 pub fn audit(h: usize, n: usize, t: usize, rows: &[u64], entries: &[u16]) -> Fault
     requires { ⌜ Huge h ⌝ }
-    ensures { λ r. ⌜ r ≡ spec.audit h n t (mem (now (rows .entry)) (now (entries .entry))) ⌝ }
+    ensures { λ r. ⌜ FindsFault h n t (mem (now (rows .entry)) (now (entries .entry))) r ⌝ }
 {
     let code = refuse::sizes(h, n, t, rows.len(), entries.len());
     if code != 0 {
@@ -26,7 +25,7 @@ pub fn audit(h: usize, n: usize, t: usize, rows: &[u64], entries: &[u16]) -> Fau
 
 pub fn recover(h: usize, n: usize, t: usize, rows: &mut [u64], entries: &mut [u16]) -> Recovered
     requires { ⌜ Huge h ⌝ }
-    ensures { λ r. ⌜ out r (mem (now (rows .exit)) (now (entries .exit))) ≡ spec.recover h n t (mem (now (rows .entry)) (now (entries .entry))) ⌝ }
+    ensures { λ r. ⌜ Recovers h n t (mem (now (rows .entry)) (now (entries .entry))) r (mem (now (rows .exit)) (now (entries .exit))) ⌝ }
 {
     let code = refuse::sizes(h, n, t, rows.len(), entries.len());
     if code != 0 {
@@ -50,7 +49,7 @@ pub fn room(
     counts: &mut [usize],
 ) -> u32
     requires { ⌜ (Huge h) × (now counts ≡ replicate (orders h) 0) ⌝ }
-    ensures { λ r. ⌜ out r (now (counts .exit)) ≡ spec.room h n t (mem (now (rows .entry)) (now (entries .entry))) frame ⌝ }
+    ensures { λ r. ⌜ TellsRoom h n t (mem (now (rows .entry)) (now (entries .entry))) frame r (now (counts .exit)) ⌝ }
 {
     let code = refuse::frame(h, n, t, rows.len(), entries.len(), frame);
     if code != 0 {
@@ -69,7 +68,7 @@ pub fn tree_run<'a>(
     frame: usize,
 ) -> &'a [u16]
     requires { ⌜ Huge h ⌝ }
-    ensures { λ r. ⌜ now r ≡ spec.treeRun h n t (mem (now (rows .entry)) (now (entries .entry))) frame ⌝ }
+    ensures { λ r. ⌜ LendsRun h n t (mem (now (rows .entry)) (now (entries .entry))) frame (now r) ⌝ }
 {
     let code = refuse::frame(h, n, t, rows.len(), entries.len(), frame);
     if code != 0 {

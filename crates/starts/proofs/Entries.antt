@@ -11,6 +11,7 @@ use borrow.Author.Tests.{le-leb, lt-leb}
 use Rattle.base.specs.Walk.{pick, written}
 use Rattle.base.proofs.Written.{length-written, written-in, written-beyond, written-same, written-parts}
 use Rattle.rules.specs.Numbers.{hugeOf, whole, entriesNeeded}
+use Rattle.rules.specs.State.{Lengths}
 use Rattle.rules.specs.Refusals.{Sized}
 use Rattle.rules.proofs.Numbers.{tree-pos}
 use Rattle.rules.proofs.Needed.{whole-needed}
@@ -19,11 +20,11 @@ use Rattle.rules.specs.Starts.{freeEntry}
 use Rattle.starts.proofs.Rows.{begins-low}
 
 -- the huge frames that lie wholly below N have needed entries
-pub wholes-needed : {h n t rl el w : ℕ} → Sized h n t rl el → w ≡ hugeOf h n → w ≤ entriesNeeded h n t
+pub wholes-needed : {h n t : ℕ} {len : Lengths} {w : ℕ} → Sized h n t len → w ≡ hugeOf h n → w ≤ entriesNeeded h n t
 wholes-needed {h} {n} {t} {w = w} s w-is = whole-needed h n t w (tree-pos t (s .tree)) (begins-low h n w-is)
 
 -- and so has a partial one, which begins below N
-pub partial-needed : {h n t rl el w first : ℕ} → Sized h n t rl el → w ≡ hugeOf h n → first ≡ w * 2 ^ h → (first ≡ n → ⊥) → w < entriesNeeded h n t
+pub partial-needed : {h n t : ℕ} {len : Lengths} {w first : ℕ} → Sized h n t len → w ≡ hugeOf h n → first ≡ w * 2 ^ h → (first ≡ n → ⊥) → w < entriesNeeded h n t
 partial-needed {h} {n} {t} {w = w} s w-is first-is other = present-entry h n t w (tree-pos t (s .tree)) (omega (arith, begins-low h n w-is))
 
 module _ (h n : ℕ) {w : ℕ} (w-is : w ≡ hugeOf h n) where

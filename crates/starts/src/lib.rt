@@ -6,7 +6,7 @@ ghost use Rattle.base.specs.Walk.{pick, written};
 ghost use Rattle.base.specs.Size.{Huge};
 ghost use Rattle.rules.specs.Numbers.{rowsNeeded, entriesNeeded, whole};
 ghost use Rattle.rules.specs.Refusals.{Sized};
-ghost use Rattle.rules.specs.State.{mem};
+ghost use Rattle.rules.specs.State.{mem, lengths, lengthsOf};
 ghost use Rattle.rules.specs.Starts as spec;
 
 // Clears the bits of the frames below c, and sets those of the needed rows from there on.
@@ -27,7 +27,7 @@ fn write_rows(h: usize, n: usize, rows: &mut [u64], c: usize)
 
 // Makes the entry of each huge frame that lies wholly below N v, and every other needed one 0.
 fn write_entries(h: usize, n: usize, t: usize, entries: &mut [u16], v: u16)
-    requires { ⌜ (Huge h) × ((rl : ℕ) × Sized h n t rl (length (now entries))) ⌝ }
+    requires { ⌜ (Huge h) × ((rl : ℕ) × Sized h n t (lengths rl (length (now entries)))) ⌝ }
     ensures { λ _. ⌜ now (entries .exit) ≡ written (λ x. pick (whole h n x) v 0) (now (entries .entry)) 0 (entriesNeeded h n t) ⌝ }
 {
     let needed = shape::entries_needed(h, n, t);
@@ -38,7 +38,7 @@ fn write_entries(h: usize, n: usize, t: usize, entries: &mut [u16], v: u16)
 
 // All frames below N free.
 pub fn free_all(h: usize, n: usize, t: usize, rows: &mut [u64], entries: &mut [u16])
-    requires { ⌜ (Huge h) × Sized h n t (length (now rows)) (length (now entries)) ⌝ }
+    requires { ⌜ (Huge h) × Sized h n t (lengthsOf (mem (now rows) (now entries))) ⌝ }
     ensures { λ _. ⌜ mem (now (rows .exit)) (now (entries .exit)) ≡ spec.allFree h n t (mem (now (rows .entry)) (now (entries .entry))) ⌝ }
 {
     write_rows(h, n, rows, n);
@@ -53,7 +53,7 @@ pub fn free_all(h: usize, n: usize, t: usize, rows: &mut [u64], entries: &mut [u
 
 // All frames below N held.
 pub fn reserve_all(h: usize, n: usize, t: usize, rows: &mut [u64], entries: &mut [u16])
-    requires { ⌜ (Huge h) × Sized h n t (length (now rows)) (length (now entries)) ⌝ }
+    requires { ⌜ (Huge h) × Sized h n t (lengthsOf (mem (now rows) (now entries))) ⌝ }
     ensures { λ _. ⌜ mem (now (rows .exit)) (now (entries .exit)) ≡ spec.allHeld h n t (mem (now (rows .entry)) (now (entries .entry))) ⌝ }
 {
     write_rows(h, n, rows, shape::huge_frame(h, shape::frame_huge(h, n)));

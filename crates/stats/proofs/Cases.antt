@@ -13,7 +13,7 @@ use Rattle.base.proofs.Sums.{sum-one}
 use Rattle.rules.specs.declared.Stats.{Stats}
 use Rattle.rules.specs.Refusals.{Sized}
 use Rattle.rules.specs.Numbers.{hugeOf, treeAt, isTree, topOrder, ceil, entriesNeeded}
-use Rattle.rules.specs.State.{Mem, mem, entryOf, freeOf, blocksIn}
+use Rattle.rules.specs.State.{Mem, mem, entryOf, freeOf, blocksIn, Lengths}
 use Rattle.rules.specs.Queries.{statistics, freeIn, treeFree, statsAll, atFrame, atTree, atOrder}
 use Rattle.rules.proofs.Entries.{whole-free, frames-in}
 use Rattle.rules.proofs.Trees.{tree-frames}
@@ -26,7 +26,7 @@ tree-of-one {h} H es k =
     count-same (λ x. eqb (entryOf es x) (2 ^ h)) (treeFree h 1 es) k 0
     (λ y _ _. rw (sum-one (λ i. freeOf (entryOf es i)) (y * 1), mul-one y, mul-one (2 ^ h)) (sym (whole-free (entryOf es y) H)))
 
-module _ {h n t rl el needed free huge v : ℕ} (s : Sized h n t rl el) (all-is : needed ≡ entriesNeeded h n t) (es : List ℕ)
+module _ {h n t : ℕ} {len : Lengths} {needed free huge v : ℕ} (s : Sized h n t len) (all-is : needed ≡ entriesNeeded h n t) (es : List ℕ)
     (free-is : free ≡ blocksIn es needed 0 0) (huge-is : huge ≡ count (λ x. eqb (entryOf es x) v) needed 0) (v-is : v ≡ 2 ^ h) where
   pub all-of-trees : {trees frames k : ℕ} → trees ≡ count (λ y. eqb (freeIn es t (y * t)) frames) k 0 → frames ≡ 2 ^ topOrder h t → k ≡ ceil n (2 ^ h * t)
       → statistics 0 free huge trees ≡ statsAll h n t es

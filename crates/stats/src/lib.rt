@@ -10,7 +10,7 @@ ghost use Rattle.base.specs.Size.{Huge};
 ghost use Rattle.base.specs.Bits.{bitIs};
 ghost use Rattle.rules.specs.Numbers.{rowOf, hugeOf, treeAt, isTree};
 ghost use Rattle.rules.specs.Refusals.{Sized, Framed};
-ghost use Rattle.rules.specs.State.{mem, entryOf, freeOf};
+ghost use Rattle.rules.specs.State.{mem, entryOf, freeOf, lengths, lengthsOf};
 ghost use Rattle.rules.specs.Queries as spec;
 use rules::Stats;
 
@@ -62,7 +62,7 @@ fn free_trees_by_size(entries: &[u16], t: usize, frames: usize, k: usize) -> usi
 
 // Free frames, huge frames and trees of all entries. A tree of one huge frame is free where that is: none is summed.
 pub fn all(h: usize, n: usize, t: usize, entries: &[u16]) -> Stats
-    requires { ⌜ (Huge h) × ((rl : ℕ) × Sized h n t rl (length (now entries))) ⌝ }
+    requires { ⌜ (Huge h) × ((rl : ℕ) × Sized h n t (lengths rl (length (now entries)))) ⌝ }
     ensures { λ r. ⌜ r ≡ spec.statsAll h n t (now (entries .entry)) ⌝ }
 {
     let needed = shape::entries_needed(h, n, t);
@@ -150,7 +150,7 @@ fn at_tree_by_size(h: usize, t: usize, entries: &[u16], frame: usize) -> Stats
 
 // At a frame, its huge frame or its tree, as the order says.
 pub fn at(h: usize, t: usize, rows: &[u64], entries: &[u16], frame: usize, order: usize) -> Stats
-    requires { ⌜ (Huge h) × ((n : ℕ) × Framed h n t (length (now rows)) (length (now entries)) frame) ⌝ }
+    requires { ⌜ (Huge h) × ((n : ℕ) × Framed h n t (lengthsOf (mem (now rows) (now entries))) frame) ⌝ }
     ensures { λ r. ⌜ r ≡ spec.atOrder h t (mem (now (rows .entry)) (now (entries .entry))) frame order ⌝ }
 {
     if order == 0 {

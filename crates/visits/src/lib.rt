@@ -7,10 +7,10 @@ ghost use lib.Dec.{leb};
 ghost use lib.ListN.{length};
 ghost use Rattle.base.specs.Walk.{first};
 ghost use Rattle.base.specs.Code.{out};
-ghost use Rattle.base.specs.Size.{Huge, rowsOf};
+ghost use Rattle.base.specs.Size.{Huge, rowsPer};
 ghost use Rattle.rules.specs.Refusals.{Started};
 ghost use Rattle.rules.specs.Numbers.{isTree};
-ghost use Rattle.rules.specs.State.{mem, freeOf};
+ghost use Rattle.rules.specs.State.{mem, freeOf, lengthsOf};
 ghost use Rattle.rules.specs.Get.{eligible, entryAt, getSmall, visit};
 use rules::Got;
 use rules::Visit;
@@ -25,7 +25,7 @@ fn look(
     order: usize,
     x: usize,
 ) -> Visit
-    requires { ⌜ (Huge h) × (order < h) × (n ≤ 1048576) × (x < length (now entries)) × (x < 1048576) × (x * 2 ^ h < n → (x + 1) * rowsOf h ≤ length (now rows)) ⌝ }
+    requires { ⌜ (Huge h) × (order < h) × (n ≤ 1048576) × (x < length (now entries)) × (x < 1048576) × (x * 2 ^ h < n → (x + 1) * rowsPer h ≤ length (now rows)) ⌝ }
     ensures { λ r. ⌜ r ≡ visit h n (mem (now (rows .entry)) (now (entries .entry))) row order x ⌝ }
 {
     let entry = entries[x];
@@ -40,9 +40,7 @@ fn look(
     if n <= first {
         return Visit::Damage;
     }
-    let a = shape::huge_row(h, x);
-    let b = a + base::size(h - 6);
-    let found = search::first_zeros(h, &rows[a..b], row, order);
+    let found = part::first_zeros(h, rows, x, row, order);
     if found.code == 0 {
         let frame = first + found.place;
         if n < frame + size {
@@ -78,7 +76,7 @@ fn next(entries: &[u16], t: usize, x: usize, order: usize, j: usize) -> usize
     requires { ⌜ (isTree t ≡ true) × (x < 1048576) × ((x / t + 1) * t ≤ length (now entries)) × (order < 16) × (j ≤ t) ⌝ }
     ensures { λ r. ⌜ r ≡ first (λ i. eligible (now (entries .entry)) order (entryAt t x i)) (t - j) j ⌝ }
 {
-    let size = 1u16 << order;
+    let size = entries::size(order);
     let mut i = j;
     while i < t {
         if counts(entries[entry_at(t, x, i)], size) {
@@ -87,14 +85,6 @@ fn next(entries: &[u16], t: usize, x: usize, order: usize, j: usize) -> usize
         i += 1;
     }
     t
-}
-
-// An entry with a block of the order taken from its count.
-fn lowered(entry: u16, order: usize) -> u16
-    requires { ⌜ (order < 16) × (2 ^ order ≤ entry) ⌝ }
-    ensures { λ r. ⌜ r ≡ entry - 2 ^ order ⌝ }
-{
-    entry - (1u16 << order)
 }
 
 // The first block of the start row's tree, from its huge frame on.
@@ -107,7 +97,7 @@ pub fn get(
     row: usize,
     order: usize,
 ) -> Got
-    requires { ⌜ (Huge h) × (order < h) × Started h n t (length (now rows)) (length (now entries)) row order ⌝ }
+    requires { ⌜ (Huge h) × (order < h) × Started h n t (lengthsOf (mem (now rows) (now entries))) row order ⌝ }
     ensures { λ r. ⌜ out r (mem (now (rows .exit)) (now (entries .exit))) ≡ getSmall h n t (mem (now (rows .entry)) (now (entries .entry))) row order ⌝ }
 {
     let start = shape::row_huge(h, row);
@@ -127,8 +117,8 @@ pub fn get(
                     };
                 }
                 Visit::Place(frame) => {
-                    bits::write_block(rows, frame, order, true);
-                    entries[x] = lowered(entries[x], order);
+                    part::toggle(h, rows, frame, order, false);
+                    entries::lower(entries, x, order);
                     return Got {
                         code: 0,
                         frame: frame,

@@ -1,6 +1,5 @@
 -- `audit::all` meets its contract. The loop's invariant: no huge frame before x is faulty. Assumes nothing.
 use Prim.Native.Nat.{_-_}
-use native.Mathlib.Omega.{arith}
 use borrow.Author.Needs.{needs}
 use Rattle.rules.specs.State.{mem}
 use Rattle.rules.proofs.AuditSteps.{AuditAt, audit-start, audit-more, audit-found, audit-passed}
@@ -13,9 +12,6 @@ Inv-loop h n t rows entries needed x₀ x = AuditAt h n t (mem rows entries) nee
 abbrev μ-loop : tie.MeasureT-loop
 μ-loop h n t rows entries needed x₀ x = needed - x
 
-entries-needed-requires : tie.Need-entries-needed-requires Inv-loop μ-loop
-entries-needed-requires c κs = search needs
-
 loop-holds : tie.Need-loop-holds Inv-loop μ-loop
 loop-holds c = audit-start (c .entries-needed .ensures)
 
@@ -26,12 +22,6 @@ reason-requires c κs =
 
 returns : tie.Need-returns Inv-loop μ-loop
 returns c = let k = c .before .before in audit-found (k .before .loop .inv) (k .loop-test .taken) (c .before .reason .ensures) (c .if1 .taken)
-
-add-x : tie.Need-add-x Inv-loop μ-loop
-add-x c = omega arith
-
-loop-less : tie.Need-loop-less Inv-loop μ-loop
-loop-less c = omega arith
 
 loop-again : tie.Need-loop-again Inv-loop μ-loop
 loop-again c = let k = c .before .before in audit-more (k .before .loop .inv) (k .loop-test .taken) (c .before .reason .ensures) (c .if1 .left)
@@ -45,11 +35,11 @@ all-spec =
     (tie.spec
     Inv-loop
     μ-loop
-    entries-needed-requires
+    (λ c κs. search needs)
     loop-holds
     reason-requires
     returns
-    add-x
-    loop-less
+    (λ c. search needs)
+    (λ c. search needs)
     loop-again
     returns-2)

@@ -4,25 +4,15 @@ use Rattle.audit.proofs.Cases.{counted-past, counted-other, counted-rig
 use Rattle.audit.proofs.counted_reason.Statement.{statement}
 use Rattle.audit.proofs.counted_reason.Tie as tie
 
-past-is-set-requires : tie.Need-past-is-set-requires
-past-is-set-requires c κs = search needs
-
 returns : tie.Need-returns
 returns c = counted-past _ _ _ _ _ (c .before .past-is-set .ensures) (c .if1 .taken)
 
-zeros-requires : tie.Need-zeros-requires
-zeros-requires c κs = search needs
-
 returns-2 : tie.Need-returns-2
-returns-2 c =
-    let e = c .before .before in
-    counted-other _ _ _ _ _ (e .before .past-is-set .ensures) (e .if1 .left) (c .before .zeros .ensures) (c .if2 .taken)
+returns-2 c = let e = c .before .before in counted-other _ _ _ _ _ (e .before .past-is-set .ensures) (e .if1 .left) (c .before .zeros .ensures) (c .if2 .taken)
 
 returns-3 : tie.Need-returns-3
-returns-3 c =
-    let e = c .before .before in
-    counted-right _ _ _ _ _ (e .before .past-is-set .ensures) (e .if1 .left) (c .before .zeros .ensures) (c .if2 .left)
+returns-3 c = let e = c .before .before in counted-right _ _ _ _ _ (e .before .past-is-set .ensures) (e .if1 .left) (c .before .zeros .ensures) (c .if2 .left)
 
 pub counted-reason-spec : {M : Type 1} → statement M
 counted-reason-spec =
-    tie.close (tie.spec past-is-set-requires returns zeros-requires returns-2 returns-3)
+    tie.close (tie.spec (λ c κs. search needs) returns (λ c κs. search needs) returns-2 returns-3)

@@ -7,29 +7,11 @@ use Rattle.rules.proofs.ClearBits.{none-past, past-asked, past-by-rows}
 use Rattle.audit.proofs.past_is_set.Statement.{statement}
 use Rattle.audit.proofs.past_is_set.Tie as tie
 
-add-huge-frame : tie.Need-add-huge-frame
-add-huge-frame c = search needs
-
 huge-frame-requires : tie.Need-huge-frame-requires
 huge-frame-requires c κs = (c .before .pre .0, frames-word (c .before .pre .0) (omega arith))
 
 returns : tie.Need-returns
 returns c = sym (none-past _ _ _ (rw (c .before .huge-frame .ensures) at (c .if1 .taken)))
-
-add-huge-row : tie.Need-add-huge-row
-add-huge-row c = search needs
-
-huge-row-requires : tie.Need-huge-row-requires
-huge-row-requires c κs = search needs
-
-sub-rest-is-set : tie.Need-sub-rest-is-set
-sub-rest-is-set c = search needs
-
-part-rest-is-set-start : tie.Need-part-rest-is-set-start
-part-rest-is-set-start c = search needs
-
-part-rest-is-set-end : tie.Need-part-rest-is-set-end
-part-rest-is-set-end c = search needs
 
 rest-is-set-requires : tie.Need-rest-is-set-requires
 rest-is-set-requires c κs =
@@ -50,13 +32,13 @@ pub past-is-set-spec : {M : Type 1} → statement M
 past-is-set-spec =
     tie.close
     (tie.spec
-    add-huge-frame
+    (λ c. search needs)
     huge-frame-requires
     returns
-    add-huge-row
-    huge-row-requires
-    sub-rest-is-set
-    part-rest-is-set-start
-    part-rest-is-set-end
+    (λ c. search needs)
+    (λ c κs. search needs)
+    (λ c. search needs)
+    (λ c. search needs)
+    (λ c. search needs)
     rest-is-set-requires
     returns-2)

@@ -9,19 +9,18 @@ use Rattle.bits.proofs.Blocks.{row-inside, row-end, rows-end, block-by-
 use Rattle.bits.proofs.block_is.Statement.{statement}
 use Rattle.bits.proofs.block_is.Tie as tie
 
-size-requires : tie.Need-size-requires
-size-requires c κs = search needs
+-- the function's entry, from a block within a row, and from one of rows
+abbrev entry : tie.Then1 → tie.Start
+entry c = c .before .before
+
+abbrev entry-rows : tie.Else1 → tie.Start
+entry-rows c = c .before .before
 
 block-mask-requires : tie.Need-block-mask-requires
-block-mask-requires c κs =
-    let s = c .before .before .before in
-    rw (c .size .ensures) (pow-pos (s .args .order), row-end (s .pre) (c .before .if1 .taken))
-
-mul-row : tie.Need-mul-row
-mul-row c = search needs
+block-mask-requires c κs = let s = entry (c .before) in rw (c .size .ensures) (pow-pos (s .args .order), row-end (s .pre) (c .before .if1 .taken))
 
 shared-slice-read-row : tie.Need-shared-slice-read-row
-shared-slice-read-row c = row-inside (c .before .before .before .before .before .pre)
+shared-slice-read-row c = row-inside (entry (c .before .before .before) .pre)
 
 returns : tie.Need-returns
 returns c =
@@ -37,60 +36,38 @@ returns-2 c =
     let test = block-by-mask (s .pre) (s .args .b) (m .before .before .if1 .taken) in
     rw (c .if2 .left, m .block-mask .ensures, m .before .size .ensures) (rw (c .if2 .left, zero-mul) at test)
 
-sub-size : tie.Need-sub-size
-sub-size c = search needs
-
-size-requires-2 : tie.Need-size-requires-2
-size-requires-2 c κs = search needs
-
 add-e : tie.Need-add-e
-add-e c = omega (arith, rows-end (c .before .before .before .pre) (c .before .if1 .left))
-
-mul-rows-are : tie.Need-mul-rows-are
-mul-rows-are c = search needs
-
-sub-rows-are : tie.Need-sub-rows-are
-sub-rows-are c = search needs
-
-part-rows-are-start : tie.Need-part-rows-are-start
-part-rows-are-start c = search needs
+add-e c = omega (arith, rows-end (entry-rows (c .before) .pre) (c .before .if1 .left))
 
 part-rows-are-end : tie.Need-part-rows-are-end
-part-rows-are-end c = omega (arith, rows-end (c .before .before .before .pre) (c .before .if1 .left))
-
-solid-row-requires : tie.Need-solid-row-requires
-solid-row-requires c κs = search needs
-
-rows-are-requires : tie.Need-rows-are-requires
-rows-are-requires c κs = search needs
+part-rows-are-end c = omega (arith, rows-end (entry-rows (c .before) .pre) (c .before .if1 .left))
 
 -- n is the part's length as the code has it: its end less its start
 returns-3 : tie.Need-returns-3
 returns-3 c =
     let z = c .before .before .before in
-    let known = z .before .before in
-    let s = known .before in
+    let s = entry-rows (z .before) in
     let n : s .args .place / 64 + z .size2 .result - s .args .place / 64 ≡ 2 ^ (s .args .order - 6) = add-sub-cancel-left _ _ ∙ z .size2 .ensures in
     rw (n, c .before .solid-row .ensures) at (c .rows-are .ensures)
-    ∙ block-by-rows (s .pre) (s .args .b) (z .before .if1 .left) (λ j. known .shared-slice-known .given j .fits)
+    ∙ block-by-rows (s .pre) (s .args .b) (z .before .if1 .left) (λ j. z .before .before .shared-slice-known .given j .fits)
 
 pub block-is-spec : {M : Type 1} → statement M
 block-is-spec =
     tie.close
     (tie.spec
-    size-requires
+    (λ c κs. search needs)
     block-mask-requires
-    mul-row
+    (λ c. search needs)
     shared-slice-read-row
     returns
     returns-2
-    sub-size
-    size-requires-2
+    (λ c. search needs)
+    (λ c κs. search needs)
     add-e
-    mul-rows-are
-    sub-rows-are
-    part-rows-are-start
+    (λ c. search needs)
+    (λ c. search needs)
+    (λ c. search needs)
     part-rows-are-end
-    solid-row-requires
-    rows-are-requires
+    (λ c κs. search needs)
+    (λ c κs. search needs)
     returns-3)

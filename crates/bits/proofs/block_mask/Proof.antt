@@ -13,19 +13,10 @@ ones-shr w s h =
     let e : w ≡ s + (w - s) = omega arith in
     ap (λ (n : ℕ). (2 ^ n - 1) / 2 ^ (w - s)) e ∙ ap (λ (x : ℕ). x / 2 ^ (w - s)) (ones-split s (w - s)) ∙ high (2 ^ s - 1) (w - s) (ones-lt (w - s))
 
-sub-result : tie.Need-sub-result
-sub-result c = search needs
-
-shr-result : tie.Need-shr-result
-shr-result c = search needs
-
-shl-result : tie.Need-shl-result
-shl-result c = search needs
-
 returns : tie.Need-returns
 returns c =
     ap (λ (x : ℕ). x * 2 ^ (c .args .place) % 2 ^ 64) (ones-shr 64 (c .args .size) (omega arith))
     ∙ shl-exact (c .args .size) (c .args .place) 64 (ones-lt (c .args .size)) (omega arith)
 
 pub block-mask-spec : {M : Type 1} → statement M
-block-mask-spec = tie.close (tie.spec sub-result shr-result shl-result returns)
+block-mask-spec = tie.close (tie.spec (λ c. search needs) (λ c. search needs) (λ c. search needs) returns)

@@ -1,7 +1,7 @@
 -- `bits::fill_rows` meets its contract. The loop's invariant: the rows before i are x, and the others are as they were. Assumes nothing.
-use mathlib.Core.Path.{_≡_, refl, ap, _∙_}
+use mathlib.Core.Path.{_≡_, ap, _∙_}
 use mathlib.Core.List.{List, _++_, append-nil}
-use Prim.Native.Nat.{ℕ, _-_, _≤_, zero-le}
+use Prim.Native.Nat.{ℕ, _-_, _≤_}
 use native.Mathlib.Omega.{arith}
 use borrow.Author.Needs.{needs}
 use borrow.Author.Fill.{fill-more}
@@ -15,18 +15,6 @@ Inv-loop rows₀ x i₀ rows i = (i ≤ length rows₀) × (length rows ≡ leng
 abbrev μ-loop : tie.MeasureT-loop
 μ-loop rows₀ x i₀ rows i = length rows - i
 
-loop-holds : tie.Need-loop-holds Inv-loop μ-loop
-loop-holds c = (zero-le, refl, refl)
-
-mul-rows : tie.Need-mul-rows Inv-loop μ-loop
-mul-rows c = search needs
-
-slice-write-rows : tie.Need-slice-write-rows Inv-loop μ-loop
-slice-write-rows c = search needs
-
-add-i : tie.Need-add-i Inv-loop μ-loop
-add-i c = search needs
-
 loop-less : tie.Need-loop-less Inv-loop μ-loop
 loop-less c = simp length-set (omega arith)
 
@@ -38,9 +26,6 @@ loop-again c =
       simp length-set (at .inv .1),
       ap (λ (l : List ℕ). set l (at .i) (s .x)) (at .inv .2) ∙ fill-more (at .i) (s .x) (s .rows .now) (omega arith),
     )
-
-same-length : tie.Need-same-length Inv-loop μ-loop
-same-length c = search needs
 
 returns : tie.Need-returns Inv-loop μ-loop
 returns c =
@@ -55,11 +40,11 @@ fill-rows-spec =
     (tie.spec
     Inv-loop
     μ-loop
-    loop-holds
-    mul-rows
-    slice-write-rows
-    add-i
+    (λ c. search needs)
+    (λ c. search needs)
+    (λ c. search needs)
+    (λ c. search needs)
     loop-less
     loop-again
-    same-length
+    (λ c. search needs)
     returns)

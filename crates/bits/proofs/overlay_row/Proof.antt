@@ -11,12 +11,6 @@ use Rattle.bits.proofs.overlay_row.Tie as tie
 returns : tie.Need-returns
 returns c = let s = c .before .args in rw (c .if1 .taken) (sym (overlay-none (s .b) (s .v) (s .hi)))
 
-sub-block-mask : tie.Need-sub-block-mask
-sub-block-mask c = search needs
-
-block-mask-requires : tie.Need-block-mask-requires
-block-mask-requires c κs = search needs
-
 sub-result : tie.Need-sub-result
 sub-result c =
     let v = c .before .before .before .args .v in
@@ -37,4 +31,4 @@ returns-3 c =
 
 pub overlay-row-spec : {M : Type 1} → statement M
 overlay-row-spec =
-    tie.close (tie.spec returns sub-block-mask block-mask-requires sub-result returns-2 returns-3)
+    tie.close (tie.spec returns (λ c. search needs) (λ c κs. search needs) sub-result returns-2 returns-3)

@@ -9,97 +9,67 @@ use Rattle.bits.proofs.Blocks.{row-inside, row-end, rows-end, with-by-r
 use Rattle.bits.proofs.write_block.Statement.{statement}
 use Rattle.bits.proofs.write_block.Tie as tie
 
-mul-overlay-row : tie.Need-mul-overlay-row
-mul-overlay-row c = search needs
+-- the function's entry, from a block within a row, and from one of rows
+abbrev entry : tie.Then1 → tie.Start
+entry c = c .before .before
+
+abbrev entry-rows : tie.Else1 → tie.Start
+entry-rows c = c .before .before
 
 slice-read-overlay-row : tie.Need-slice-read-overlay-row
-slice-read-overlay-row c = row-inside (c .before .before .before .pre)
-
-size-requires : tie.Need-size-requires
-size-requires c κs = search needs
+slice-read-overlay-row c = row-inside (entry (c .before) .pre)
 
 add-overlay-row : tie.Need-add-overlay-row
-add-overlay-row c = omega (arith, row-end (c .before .before .before .before .pre) (c .before .before .if1 .taken))
+add-overlay-row c = let t = c .before .before in omega (arith, row-end (entry t .pre) (t .if1 .taken))
 
 overlay-row-requires : tie.Need-overlay-row-requires
-overlay-row-requires c κs = omega (arith, row-end (c .before .before .before .before .pre) (c .before .before .if1 .taken))
-
-mul-rows : tie.Need-mul-rows
-mul-rows c = search needs
+overlay-row-requires c κs = let t = c .before .before in omega (arith, row-end (entry t .pre) (t .if1 .taken))
 
 slice-write-rows : tie.Need-slice-write-rows
-slice-write-rows c = row-inside (c .before .before .before .before .before .pre)
-
-same-length : tie.Need-same-length
-same-length c = search needs
+slice-write-rows c = row-inside (entry (c .before .before .before) .pre)
 
 returns : tie.Need-returns
 returns c =
     let t = c .before .before .before in
-    let s = t .before .before in
+    let s = entry t in
     rw (c .overlay-row .ensures, c .before .size .ensures) (sym (with-row (s .args .b) _ _ _ (row-end (s .pre) (t .if1 .taken))))
 
-sub-size : tie.Need-sub-size
-sub-size c = search needs
-
-size-requires-2 : tie.Need-size-requires-2
-size-requires-2 c κs = search needs
-
 add-e : tie.Need-add-e
-add-e c = omega (arith, rows-end (c .before .before .before .pre) (c .before .if1 .left))
-
-mul-fill-rows : tie.Need-mul-fill-rows
-mul-fill-rows c = search needs
-
-sub-fill-rows : tie.Need-sub-fill-rows
-sub-fill-rows c = search needs
-
-part-fill-rows-start : tie.Need-part-fill-rows-start
-part-fill-rows-start c = search needs
+add-e c = omega (arith, rows-end (entry-rows (c .before) .pre) (c .before .if1 .left))
 
 part-fill-rows-end : tie.Need-part-fill-rows-end
-part-fill-rows-end c = omega (arith, rows-end (c .before .before .before .pre) (c .before .if1 .left))
-
-solid-row-requires : tie.Need-solid-row-requires
-solid-row-requires c κs = search needs
-
-fill-rows-requires : tie.Need-fill-rows-requires
-fill-rows-requires c κs = search needs
-
-same-length-2 : tie.Need-same-length-2
-same-length-2 c = search needs
+part-fill-rows-end c = omega (arith, rows-end (entry-rows (c .before) .pre) (c .before .if1 .left))
 
 -- n is the part's length as the code has it: its end less its start
 returns-2 : tie.Need-returns-2
 returns-2 c =
     let f = c .before .before in
     let z = f .before .before .before in
-    let known = z .before .before in
-    let s = known .before in
+    let s = entry-rows (z .before) in
     let n : s .args .place / 64 + z .size2 .result - s .args .place / 64 ≡ 2 ^ (s .args .order - 6) = add-sub-cancel-left _ _ ∙ z .size2 .ensures in
-    rw (f .fill-rows .ensures, f .before .solid-row .ensures, n) (with-by-rows (s .pre) (s .args .b) (z .before .if1 .left) (λ j. known .slice-known .given j .fits))
+    rw (f .fill-rows .ensures, f .before .solid-row .ensures, n) (with-by-rows (s .pre) (s .args .b) (z .before .if1 .left) (λ j. z .before .before .slice-known .given j .fits))
 
 pub write-block-spec : {M : Type 1} → statement M
 write-block-spec =
     tie.close
     (tie.spec
-    mul-overlay-row
+    (λ c. search needs)
     slice-read-overlay-row
-    size-requires
+    (λ c κs. search needs)
     add-overlay-row
     overlay-row-requires
-    mul-rows
+    (λ c. search needs)
     slice-write-rows
-    same-length
+    (λ c. search needs)
     returns
-    sub-size
-    size-requires-2
+    (λ c. search needs)
+    (λ c κs. search needs)
     add-e
-    mul-fill-rows
-    sub-fill-rows
-    part-fill-rows-start
+    (λ c. search needs)
+    (λ c. search needs)
+    (λ c. search needs)
     part-fill-rows-end
-    solid-row-requires
-    fill-rows-requires
-    same-length-2
+    (λ c κs. search needs)
+    (λ c κs. search needs)
+    (λ c. search needs)
     returns-2)

@@ -23,30 +23,15 @@ loop-holds : tie.Need-loop-holds Inv-loop μ-loop
 unfolding count
 loop-holds c = (zero-le, refl)
 
-mul-sum : tie.Need-mul-sum Inv-loop μ-loop
-mul-sum c = search needs
-
-shared-slice-read-sum : tie.Need-shared-slice-read-sum Inv-loop μ-loop
-shared-slice-read-sum c = search needs
-
 sub-sum : tie.Need-sub-sum Inv-loop μ-loop
 sub-sum c =
     let i = c .before .before .loop .i in
     ones-le 64 (getD (c .before .before .before .args .rows .now) i 0) (c .shared-slice-known .given i .fits)
 
-cast-sum : tie.Need-cast-sum Inv-loop μ-loop
-cast-sum c = search needs
-
 add-sum : tie.Need-add-sum Inv-loop μ-loop
 add-sum c =
     let rows = c .before .before .before .args .rows .now in
     omega (arith, count-le (bitIs false rows) (c .before .before .loop .i * 64) 0)
-
-add-i : tie.Need-add-i Inv-loop μ-loop
-add-i c = search needs
-
-loop-less : tie.Need-loop-less Inv-loop μ-loop
-loop-less c = search needs
 
 loop-again : tie.Need-loop-again Inv-loop μ-loop
 loop-again c =
@@ -69,12 +54,12 @@ zeros-spec =
     Inv-loop
     μ-loop
     loop-holds
-    mul-sum
-    shared-slice-read-sum
+    (λ c. search needs)
+    (λ c. search needs)
     sub-sum
-    cast-sum
+    (λ c. search needs)
     add-sum
-    add-i
-    loop-less
+    (λ c. search needs)
+    (λ c. search needs)
     loop-again
     returns)

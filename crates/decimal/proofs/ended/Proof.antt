@@ -9,24 +9,15 @@ use Rattle.decimal.proofs.Cases.{number-is, none-here, none-zero}
 use Rattle.decimal.proofs.ended.Statement.{statement}
 use Rattle.decimal.proofs.ended.Tie as tie
 
-none-requires : tie.Need-none-requires
-none-requires c κs = search needs
-
 returns : tie.Need-returns
 returns c =
     let s = c .before .before .before in
     c .none .ensures ∙ none-here _ _ _ _ (s .pre .0) (s .pre .1) (c .before .if1 .taken)
 
-sub-if2 : tie.Need-sub-if2
-sub-if2 c = search needs
-
 shared-slice-read-if3 : tie.Need-shared-slice-read-if3
 shared-slice-read-if3 c =
     let s = c .before .before .before .before in
     omega (arith, end-within (s .args .line .now) (s .args .at))
-
-none-requires-2 : tie.Need-none-requires-2
-none-requires-2 c κs = search needs
 
 returns-2 : tie.Need-returns-2
 returns-2 c =
@@ -40,4 +31,4 @@ returns-3 c =
     (⊎-elim (λ w. inr (eqb-false _ _ (w .2 .left))) (λ w. inl (omega arith)) (c .if2 .came)) (omega arith)
 
 pub ended-spec : {M : Type 1} → statement M
-ended-spec = tie.close (tie.spec none-requires returns sub-if2 shared-slice-read-if3 none-requires-2 returns-2 returns-3)
+ended-spec = tie.close (tie.spec (λ c κs. search needs) returns (λ c. search needs) shared-slice-read-if3 (λ c κs. search needs) returns-2 returns-3)

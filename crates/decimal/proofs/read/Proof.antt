@@ -25,9 +25,6 @@ loop-holds c = (omega arith, omega arith, sym (value-none _ _), λ i h a. absurd
 shared-slice-read-c : tie.Need-shared-slice-read-c Inv-loop μ-loop
 shared-slice-read-c c = omega arith
 
-is-digit-requires : tie.Need-is-digit-requires Inv-loop μ-loop
-is-digit-requires c κs = search needs
-
 ended-requires : tie.Need-ended-requires Inv-loop μ-loop
 ended-requires c κs =
     let i = c .before .before .before .before .loop .inv in
@@ -55,9 +52,6 @@ cast-digit c = omega (arith, digit-high (byte c) (digit c))
 
 fits-requires : tie.Need-fits-requires Inv-loop μ-loop
 fits-requires c κs = omega (arith, digit-high (byte c) (digit c))
-
-none-requires : tie.Need-none-requires Inv-loop μ-loop
-none-requires c κs = search needs
 
 returns-2 : tie.Need-returns-2 Inv-loop μ-loop
 returns-2 c =
@@ -105,13 +99,13 @@ read-spec =
     μ-loop
     loop-holds
     shared-slice-read-c
-    is-digit-requires
+    (λ c κs. search needs)
     ended-requires
     returns
     sub-digit
     cast-digit
     fits-requires
-    none-requires
+    (λ c κs. search needs)
     returns-2
     mul-value
     add-value

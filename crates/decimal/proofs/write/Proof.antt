@@ -6,9 +6,6 @@ use Rattle.decimal.proofs.Cases.{wrote}
 use Rattle.decimal.proofs.write.Statement.{statement}
 use Rattle.decimal.proofs.write.Tie as tie
 
-places-requires : tie.Need-places-requires
-places-requires c κs = search needs
-
 store-requires : tie.Need-store-requires
 store-requires c κs = omega (arith, c .before .places .ensures, places-high (c .before .before .before .args .n))
 
@@ -17,9 +14,6 @@ add-result c =
     let p = c .before .before .before .before in
     omega (arith, p .places .ensures, places-high (p .before .before .args .n))
 
-same-length : tie.Need-same-length
-same-length c = search needs
-
 returns : tie.Need-returns
 returns c =
     let p = c .before .before .before .before in
@@ -27,4 +21,4 @@ returns c =
     wrote (s .text .now) (s .at) (s .n) (p .places .result) (p .places .ensures) (c .before .before .store .ensures)
 
 pub write-spec : {M : Type 1} → statement M
-write-spec = tie.close (tie.spec places-requires store-requires add-result same-length returns)
+write-spec = tie.close (tie.spec (λ c κs. search needs) store-requires add-result (λ c. search needs) returns)

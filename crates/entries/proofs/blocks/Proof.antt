@@ -20,24 +20,6 @@ abbrev μ-loop : tie.MeasureT-loop
 loop-holds : tie.Need-loop-holds Inv-loop μ-loop
 loop-holds c = sum-start
 
-add-free : tie.Need-add-free Inv-loop μ-loop
-add-free c = search needs
-
-mul-free : tie.Need-mul-free Inv-loop μ-loop
-mul-free c = search needs
-
-shared-slice-read-free : tie.Need-shared-slice-read-free Inv-loop μ-loop
-shared-slice-read-free c = search needs
-
-free-requires : tie.Need-free-requires Inv-loop μ-loop
-free-requires c κs = search needs
-
-cast-sum : tie.Need-cast-sum Inv-loop μ-loop
-cast-sum c = search needs
-
-shr-sum : tie.Need-shr-sum Inv-loop μ-loop
-shr-sum c = search needs
-
 -- what the next entry adds
 here : (a : tie.After-free Inv-loop μ-loop) → a .free .result / 2 ^ a .before .before .before .before .before .args .order ≤ mark
 here a =
@@ -47,19 +29,10 @@ here a =
 add-sum : tie.Need-add-sum Inv-loop μ-loop
 add-sum c = omega (arith, here c, c .before .before .before .loop .inv .low)
 
-add-i : tie.Need-add-i Inv-loop μ-loop
-add-i c = search needs
-
-loop-less : tie.Need-loop-less Inv-loop μ-loop
-loop-less c = search needs
-
 loop-again : tie.Need-loop-again Inv-loop μ-loop
 loop-again c =
     let k = c .before .before in
     sum-turn (k .before .loop .inv) (k .loop-test .taken) (ap (λ (x : ℕ). x / 2 ^ k .before .before .before .args .order) (c .free .ensures)) (here c)
-
-cast-result : tie.Need-cast-result Inv-loop μ-loop
-cast-result c = search needs
 
 returns : tie.Need-returns Inv-loop μ-loop
 returns c = sum-end (c .before .loop .inv) (c .loop-test .left)
@@ -71,15 +44,15 @@ blocks-spec =
     Inv-loop
     μ-loop
     loop-holds
-    add-free
-    mul-free
-    shared-slice-read-free
-    free-requires
-    cast-sum
-    shr-sum
+    (λ c. search needs)
+    (λ c. search needs)
+    (λ c. search needs)
+    (λ c κs. search needs)
+    (λ c. search needs)
+    (λ c. search needs)
     add-sum
-    add-i
-    loop-less
+    (λ c. search needs)
+    (λ c. search needs)
     loop-again
-    cast-result
+    (λ c. search needs)
     returns)

@@ -17,15 +17,6 @@ Inv-loop entries₀ v at g j₀ entries j = (j ≤ g) × (length entries ≡ len
 abbrev μ-loop : tie.MeasureT-loop
 μ-loop entries₀ v at g j₀ entries j = g - j
 
-mul-entries : tie.Need-mul-entries Inv-loop μ-loop
-mul-entries c = search needs
-
-slice-write-entries : tie.Need-slice-write-entries Inv-loop μ-loop
-slice-write-entries c = search needs
-
-same-length : tie.Need-same-length Inv-loop μ-loop
-same-length c = search needs
-
 returns : tie.Need-returns Inv-loop μ-loop
 unfolding written
 returns c = rw (c .if1 .taken, add-zero)
@@ -33,21 +24,6 @@ returns c = rw (c .if1 .taken, add-zero)
 loop-holds : tie.Need-loop-holds Inv-loop μ-loop
 unfolding written
 loop-holds c = (omega arith, refl, refl)
-
-add-entries : tie.Need-add-entries Inv-loop μ-loop
-add-entries c = search needs
-
-mul-entries-2 : tie.Need-mul-entries-2 Inv-loop μ-loop
-mul-entries-2 c = search needs
-
-slice-write-entries-2 : tie.Need-slice-write-entries-2 Inv-loop μ-loop
-slice-write-entries-2 c = search needs
-
-add-j : tie.Need-add-j Inv-loop μ-loop
-add-j c = search needs
-
-loop-less : tie.Need-loop-less Inv-loop μ-loop
-loop-less c = search needs
 
 loop-again : tie.Need-loop-again Inv-loop μ-loop
 loop-again c =
@@ -57,9 +33,6 @@ loop-again c =
       simp length-set (at .inv .1),
       ap (λ (l : List ℕ). set l (s .at + at .j) (s .v)) (at .inv .2) ∙ written-more (λ i. s .v) (s .entries .now) (s .at) (at .j),
     )
-
-same-length-2 : tie.Need-same-length-2 Inv-loop μ-loop
-same-length-2 c = search needs
 
 returns-2 : tie.Need-returns-2 Inv-loop μ-loop
 returns-2 c =
@@ -74,16 +47,16 @@ fill-spec =
     (tie.spec
     Inv-loop
     μ-loop
-    mul-entries
-    slice-write-entries
-    same-length
+    (λ c. search needs)
+    (λ c. search needs)
+    (λ c. search needs)
     returns
     loop-holds
-    add-entries
-    mul-entries-2
-    slice-write-entries-2
-    add-j
-    loop-less
+    (λ c. search needs)
+    (λ c. search needs)
+    (λ c. search needs)
+    (λ c. search needs)
+    (λ c. search needs)
     loop-again
-    same-length-2
+    (λ c. search needs)
     returns-2)

@@ -9,9 +9,6 @@ use Rattle.bitfield_rules.proofs.Laws.{rows-bits}
 use Rattle.field.proofs.count_zeros.Statement.{statement}
 use Rattle.field.proofs.count_zeros.Tie as tie
 
-rows-code-requires : tie.Need-rows-code-requires
-rows-code-requires c κs = search needs
-
 returns : tie.Need-returns
 unfolding spec.countZeros
 returns c = rw (ne-eqb _ 0 (λ z. c .if1 .taken (c .before .rows-code .ensures ∙ z)), c .before .rows-code .ensures)
@@ -27,7 +24,7 @@ unfolding spec.countZeros
 returns-2 c =
     let k = c .before .before in
     let code = sym (k .rows-code .ensures) ∙ c .before .if1 .left in
-    rw (eq-eqb _ 0 code, ← rows-bits (k .before .before .pre) _ code) (ap (spec.counted 0) (c .zeros .ensures))
+    rw (eq-eqb _ 0 code, ← rows-bits (k .before .before .pre) _ code) (ap (spec.zeroCount 0) (c .zeros .ensures))
 
 pub count-zeros-spec : {M : Type 1} → statement M
-count-zeros-spec = tie.close (tie.spec rows-code-requires returns zeros-requires returns-2)
+count-zeros-spec = tie.close (tie.spec (λ c κs. search needs) returns zeros-requires returns-2)

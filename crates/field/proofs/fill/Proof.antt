@@ -11,21 +11,9 @@ use Rattle.bitfield_rules.proofs.Laws.{all-written}
 use Rattle.field.proofs.fill.Statement.{statement}
 use Rattle.field.proofs.fill.Tie as tie
 
-rows-code-requires : tie.Need-rows-code-requires
-rows-code-requires c κs = search needs
-
 returns : tie.Need-returns
 unfolding spec.fill
 returns c = refused _ _ (c .before .rows-code .ensures) (c .if1 .taken)
-
-solid-row-requires : tie.Need-solid-row-requires
-solid-row-requires c κs = search needs
-
-fill-rows-requires : tie.Need-fill-rows-requires
-fill-rows-requires c κs = search needs
-
-same-length : tie.Need-same-length
-same-length c = search needs
 
 returns-2 : tie.Need-returns-2
 unfolding spec.fill
@@ -41,4 +29,4 @@ returns-2 c =
     ∙ done _ _ code
 
 pub fill-spec : {M : Type 1} → statement M
-fill-spec = tie.close (tie.spec rows-code-requires returns solid-row-requires fill-rows-requires same-length returns-2)
+fill-spec = tie.close (tie.spec (λ c κs. search needs) returns (λ c κs. search needs) (λ c κs. search needs) (λ c. search needs) returns-2)

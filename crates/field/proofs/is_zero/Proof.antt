@@ -7,9 +7,6 @@ use Rattle.bitfield_rules.proofs.Laws.{within, in-rows}
 use Rattle.field.proofs.is_zero.Statement.{statement}
 use Rattle.field.proofs.is_zero.Tie as tie
 
-block-code-requires : tie.Need-block-code-requires
-block-code-requires c κs = search needs
-
 returns : tie.Need-returns
 unfolding spec.isZero
 returns c = rw (ne-eqb _ 0 (λ z. c .if1 .taken (c .before .block-code .ensures ∙ z)), c .before .block-code .ensures)
@@ -26,4 +23,4 @@ returns-2 c =
     rw (eq-eqb _ 0 code) (ap (spec.answered 0) (c .block-is .ensures))
 
 pub is-zero-spec : {M : Type 1} → statement M
-is-zero-spec = tie.close (tie.spec block-code-requires returns block-is-requires returns-2)
+is-zero-spec = tie.close (tie.spec (λ c κs. search needs) returns block-is-requires returns-2)

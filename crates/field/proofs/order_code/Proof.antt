@@ -5,9 +5,6 @@ use Rattle.base.proofs.Codes.{stops, passes}
 use Rattle.field.proofs.order_code.Statement.{statement}
 use Rattle.field.proofs.order_code.Tie as tie
 
-rows-code-requires : tie.Need-rows-code-requires
-rows-code-requires c κs = search needs
-
 returns : tie.Need-returns
 returns c = stops _ (c .before .rows-code .ensures) (c .if1 .taken)
 
@@ -18,4 +15,4 @@ returns-3 : tie.Need-returns-3
 returns-3 c = passes (c .before .before .rows-code .ensures) (c .before .if1 .left) (rw (lt-leb _ _ (c .if2 .left)))
 
 pub order-code-spec : {M : Type 1} → statement M
-order-code-spec = tie.close (tie.spec rows-code-requires returns returns-2 returns-3)
+order-code-spec = tie.close (tie.spec (λ c κs. search needs) returns returns-2 returns-3)

@@ -9,9 +9,6 @@ use Rattle.base.proofs.Stored.{refused, done}
 use Rattle.field.proofs.set.Statement.{statement}
 use Rattle.field.proofs.set.Tie as tie
 
-rows-code-requires : tie.Need-rows-code-requires
-rows-code-requires c κs = search needs
-
 returns : tie.Need-returns
 unfolding spec.set
 returns c = refused _ _ (stops _ (c .before .rows-code .ensures) (c .if1 .taken)) (c .if1 .taken)
@@ -22,9 +19,6 @@ returns-2 c =
     let s = c .before .before in
     refused _ _ (passes (s .rows-code .ensures) (c .before .if1 .left) (rw (lt-leb _ _ (c .if2 .taken)))) (λ e. omega arith)
 
-size-requires : tie.Need-size-requires
-size-requires c κs = omega (arith, c .before .before .before .before .pre .high)
-
 returns-3 : tie.Need-returns-3
 unfolding spec.set
 returns-3 c =
@@ -34,12 +28,6 @@ returns-3 c =
     refused _ _
     (passes (s .rows-code .ensures) (c .before .before .before .if1 .left) (rw (le-leb _ _ (c .before .before .if2 .left), lt-leb (a .end) (2 ^ a .h) past)))
     (λ e. omega arith)
-
-write-requires : tie.Need-write-requires
-write-requires c κs = search needs
-
-same-length : tie.Need-same-length
-same-length c = search needs
 
 returns-4 : tie.Need-returns-4
 unfolding spec.set
@@ -52,4 +40,4 @@ returns-4 c =
     (done _ _ (passes (s .rows-code .ensures) (k .before .before .before .if1 .left) (rw (le-leb _ _ (k .before .before .if2 .left), le-leb (a .end) (2 ^ a .h) ends))))
 
 pub set-spec : {M : Type 1} → statement M
-set-spec = tie.close (tie.spec rows-code-requires returns returns-2 size-requires returns-3 write-requires same-length returns-4)
+set-spec = tie.close (tie.spec (λ c κs. search needs) returns returns-2 (λ c κs. search needs) returns-3 (λ c κs. search needs) (λ c. search needs) returns-4)

@@ -15,7 +15,7 @@ use Rattle.base.specs.Bits.{solid}
 use Rattle.base.proofs.Walks.{all-of, all-not}
 use Rattle.bitfield_rules.specs.Calls as spec
 use Rattle.base.proofs.Stored.{refused, done}
-use Rattle.field.proofs.Turned.{TurnedTo, turned-none, next-row, turned-more, put-back, turned-all}
+use Rattle.field.proofs.Turned.{TurnedTo, next-row, turned-more, put-back, turned-all}
 use Rattle.field.proofs.toggle_rows.Statement.{statement}
 use Rattle.field.proofs.toggle_rows.Tie as tie
 
@@ -25,63 +25,30 @@ Inv-loop rows₀ expected want other i₀ rows i = TurnedTo rows₀ want other r
 abbrev μ-loop : tie.MeasureT-loop
 μ-loop rows₀ expected want other i₀ rows i = length rows - i
 
-solid-row-requires : tie.Need-solid-row-requires Inv-loop μ-loop
-solid-row-requires c κs = search needs
+-- the function's entry, from a turn of its loop, and the turn whose row differs
+abbrev entry : tie.At-loop Inv-loop μ-loop → tie.Start Inv-loop μ-loop
+entry a = a .before .before .before .before
 
-solid-row-requires-2 : tie.Need-solid-row-requires-2 Inv-loop μ-loop
-solid-row-requires-2 c κs = search needs
+abbrev differing : tie.After-slice-known3 Inv-loop μ-loop → tie.Then1 Inv-loop μ-loop
+differing c = c .before .before .before .before
 
-loop-holds : tie.Need-loop-holds Inv-loop μ-loop
-loop-holds c = turned-none
-
-mul-if1 : tie.Need-mul-if1 Inv-loop μ-loop
-mul-if1 c = search needs
-
-slice-read-if1 : tie.Need-slice-read-if1 Inv-loop μ-loop
-slice-read-if1 c = search needs
-
-sub-fill-rows : tie.Need-sub-fill-rows Inv-loop μ-loop
-sub-fill-rows c = search needs
-
-part-fill-rows-start : tie.Need-part-fill-rows-start Inv-loop μ-loop
-part-fill-rows-start c = search needs
-
-part-fill-rows-end : tie.Need-part-fill-rows-end Inv-loop μ-loop
-part-fill-rows-end c = search needs
-
-fill-rows-requires : tie.Need-fill-rows-requires Inv-loop μ-loop
-fill-rows-requires c κs = search needs
-
--- the rows that a turn leaves where one differs
-back : (c : tie.After-slice-known3 Inv-loop μ-loop) → let f = c .before .before in let a = f .before .before .before .before .before in
-    f .fill-rows .last .0 ++ drop (a .loop .i - 0) (a .loop .rows) ≡ a .before .before .before .before .args .rows .now
+-- the rows that this turn leaves
+back : (c : tie.After-slice-known3 Inv-loop μ-loop) → let a = differing c .before .before .before in
+    c .before .before .fill-rows .last .0 ++ drop (a .loop .i - 0) (a .loop .rows) ≡ entry a .args .rows .now
 back c =
-    let f = c .before .before in
-    let k = f .before .before .before .before in
-    put-back (k .before .loop .inv) (omega (arith, k .loop-test .taken)) (f .fill-rows .last .0) (f .fill-rows .ensures)
-
-same-length : tie.Need-same-length Inv-loop μ-loop
-same-length c = ap length (back c)
+    let k = differing c .before .before in
+    put-back (k .before .loop .inv) (omega (arith, k .loop-test .taken)) (c .before .before .fill-rows .last .0) (c .before .before .fill-rows .ensures)
 
 returns : tie.Need-returns Inv-loop μ-loop
 unfolding spec.turnRows
 returns c =
-    let i = c .before .before .before .before in
+    let i = differing c in
     let a = i .before .before .before in
-    let s = a .before .before .before .before in
+    let s = entry a in
     let differs : all (λ j. eqb (getD (s .args .rows .now) j 0) (solid (s .args .expected) 64)) (length (s .args .rows .now)) 0 ≡ false =
     all-not _ _ 0 (a .loop .i) (omega arith) (omega arith)
     (ne-eqb _ _ (λ e. i .if1 .taken (next-row (a .loop .inv) (i .before .before .loop-test .taken) ∙ e ∙ sym (a .before .before .solid-row .ensures)))) in
     ap (out 7) (back c) ∙ refused _ _ {c = unless (all (λ j. eqb (getD (s .args .rows .now) j 0) (solid (s .args .expected) 64)) (length (s .args .rows .now)) 0) 7} (rw differs) (λ e. omega arith)
-
-mul-rows : tie.Need-mul-rows Inv-loop μ-loop
-mul-rows c = search needs
-
-slice-write-rows : tie.Need-slice-write-rows Inv-loop μ-loop
-slice-write-rows c = search needs
-
-add-i : tie.Need-add-i Inv-loop μ-loop
-add-i c = search needs
 
 loop-less : tie.Need-loop-less Inv-loop μ-loop
 loop-less c = simp length-set (omega arith)
@@ -89,14 +56,11 @@ loop-less c = simp length-set (omega arith)
 loop-again : tie.Need-loop-again Inv-loop μ-loop
 loop-again c = turned-more (c .before .before .before .loop .inv) (c .before .before .loop-test .taken) (c .if1 .left)
 
-same-length-2 : tie.Need-same-length-2 Inv-loop μ-loop
-same-length-2 c = c .before .loop .inv .long
-
 returns-2 : tie.Need-returns-2 Inv-loop μ-loop
 unfolding spec.turnRows
 returns-2 c =
     let a = c .before in
-    let s = a .before .before .before .before in
+    let s = entry a in
     let t = a .loop .inv in
     let alike : all (λ j. eqb (getD (s .args .rows .now) j 0) (solid (s .args .expected) 64)) (length (s .args .rows .now)) 0 ≡ true =
     all-of _ _ 0 (λ j _ l. eq-eqb _ _ (t .was j (omega (arith, t .long, c .loop-test .left)) ∙ a .before .before .solid-row .ensures)) in
@@ -108,21 +72,21 @@ toggle-rows-spec =
     (tie.spec
     Inv-loop
     μ-loop
-    solid-row-requires
-    solid-row-requires-2
-    loop-holds
-    mul-if1
-    slice-read-if1
-    sub-fill-rows
-    part-fill-rows-start
-    part-fill-rows-end
-    fill-rows-requires
-    same-length
+    (λ c κs. search needs)
+    (λ c κs. search needs)
+    (λ c. search needs)
+    (λ c. search needs)
+    (λ c. search needs)
+    (λ c. search needs)
+    (λ c. search needs)
+    (λ c. search needs)
+    (λ c κs. search needs)
+    (λ c. search needs)
     returns
-    mul-rows
-    slice-write-rows
-    add-i
+    (λ c. search needs)
+    (λ c. search needs)
+    (λ c. search needs)
     loop-less
     loop-again
-    same-length-2
+    (λ c. search needs)
     returns-2)

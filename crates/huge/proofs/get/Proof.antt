@@ -7,7 +7,7 @@ use native.Mathlib.Omega.{arith}
 use borrow.Author.Needs.{needs}
 use borrow.Author.Tests.{ltb-true}
 use lib.ListN.{length}
-use Rattle.base.specs.Size.{rowsOf}
+use Rattle.base.specs.Size.{rowsPer}
 use Rattle.base.proofs.Walks.{FirstAt, first-start, first-found, first-more, first-none}
 use Rattle.rules.specs.State.{entriesAre}
 use Rattle.rules.specs.Numbers.{groupOf}
@@ -33,12 +33,6 @@ short c = order-low _ (c .pre .2 .1 .sized) (c .pre .2 .1 .top)
 log-low : (c : tie.After-tree-log Inv-loop μ-loop) → c .tree-log .result < 10
 log-low c = rw (c .tree-log .ensures) (ltb-true _ 10 (c .before .before .pre .2 .1 .sized .tree))
 
-tree-log-requires : tie.Need-tree-log-requires Inv-loop μ-loop
-tree-log-requires c κs = c .before .pre .2 .1 .sized .tree
-
-row-huge-requires : tie.Need-row-huge-requires Inv-loop μ-loop
-row-huge-requires c κs = search needs
-
 huge-tree-requires : tie.Need-huge-tree-requires Inv-loop μ-loop
 huge-tree-requires c κs = log-low (c .before)
 
@@ -47,14 +41,8 @@ tree-huge-requires c κs =
     let k = c .before .before in
     (log-low k, rw (c .huge-tree .ensures) (omega (arith, div-mul-le-self (c .before .row-huge .result) (2 ^ k .tree-log .result))))
 
-sub-size : tie.Need-sub-size Inv-loop μ-loop
-sub-size c = search needs
-
 size-requires : tie.Need-size-requires Inv-loop μ-loop
 size-requires c κs = omega (arith, short (c .before .before .before .before .before))
-
-whole-requires : tie.Need-whole-requires Inv-loop μ-loop
-whole-requires c κs = search needs
 
 add-end : tie.Need-add-end Inv-loop μ-loop
 add-end c =
@@ -63,9 +51,6 @@ add-end c =
     let s = x .before .before .before in
     omega (arith, tree-low (s .pre .0) (s .pre .2 .1) _ _ _ _ (x .before .tree-log .ensures) (x .row-huge .ensures) (first .before .huge-tree .ensures) (first .tree-huge .ensures))
 
-sub-huge-child : tie.Need-sub-huge-child Inv-loop μ-loop
-sub-huge-child c = search needs
-
 huge-child-requires : tie.Need-huge-child-requires Inv-loop μ-loop
 huge-child-requires c κs = short (c .before .before .before .before .before .before .before)
 
@@ -73,14 +58,7 @@ sub-at : tie.Need-sub-at Inv-loop μ-loop
 sub-at c = rw (c .huge-child .ensures) (mod-le _ _)
 
 add-size : tie.Need-add-size Inv-loop μ-loop
-add-size c =
-    let k = c .before .before .before .before .before .before in
-    omega (arith, k .before .before .pre .0 .high, log-low k)
-
-sub-size-2 : tie.Need-sub-size-2 Inv-loop μ-loop
-sub-size-2 c =
-    let k = c .before .before .before .before .before .before in
-    rw (k .tree-log .ensures) (k .before .before .pre .2 .1 .top)
+add-size c = let k = c .before .before .before .before .before .before in omega (arith, k .before .before .pre .0 .high, log-low k)
 
 size-requires-2 : tie.Need-size-requires-2 Inv-loop μ-loop
 size-requires-2 c κs = omega (arith, log-low (c .before .before .before .before .before .before))
@@ -105,7 +83,7 @@ module _ (c : tie.After-size2 Inv-loop μ-loop) where
   abbrev huge : ℕ
   huge = c .before .before .before .before .before .before .row-huge .result
 
-  huge-is : huge ≡ start .args .row / rowsOf (start .args .h)
+  huge-is : huge ≡ start .args .row / rowsPer (start .args .h)
   huge-is = c .before .before .before .before .before .before .row-huge .ensures ∙ huge-by-rows (start .args .row) (start .pre .0)
 
   -- the tree that is searched
@@ -130,20 +108,13 @@ lent a = rw (a .loop .inv .0) (omega (arith, ends a, tree (a .before) .ends))
 -- whether group j is free is what was asked
 answer : (c : tie.After-are Inv-loop μ-loop) → let a = c .before .before .before in let s = start (a .before) in
     entriesAre (2 ^ s .args .h) (s .args .entries .now) (groupAt (s .args .t) (wide (a .before)) (huge (a .before)) (a .loop .j)) (wide (a .before)) ≡ c .are .result
-answer c =
-    let a = c .before .before .before in
-    sym (rw (a .before .before .before .whole .ensures, a .loop .inv .0, a .loop .inv .1) at (c .are .ensures))
+answer c = let a = c .before .before .before in sym (rw (a .before .before .before .whole .ensures, a .loop .inv .0, a .loop .inv .1) at (c .are .ensures))
 
 are-requires : tie.Need-are-requires Inv-loop μ-loop
 are-requires c κs = lent (c .before .before)
 
-add-take : tie.Need-add-take Inv-loop μ-loop
-add-take c = search needs
-
 take-requires : tie.Need-take-requires Inv-loop μ-loop
-take-requires c κs =
-    let a = c .before .before .before .before .before in
-    (start (a .before) .pre .0, lent a, omega (arith, ends a, tree (a .before) .low))
+take-requires c κs = let a = c .before .before .before .before .before in (start (a .before) .pre .0, lent a, omega (arith, ends a, tree (a .before) .low))
 
 same-length : tie.Need-same-length Inv-loop μ-loop
 same-length c = c .before .before .take .kept .1 .1 .0 ∙ ap length (c .before .before .before .before .before .before .before .before .loop .inv .0)
@@ -153,21 +124,12 @@ returns c =
     let e = c .before .before .before .before .before in
     let a = e .before .before .before in
     let in-loop = e .before .before .loop-test .taken in
-    let s = start (a .before) .args in
-    get-found (s .h) (s .n) (s .t) (s .entries .now) (s .row) (s .order) _ _ _ _ (wide-is (a .before)) (huge-is (a .before)) (groups-are (tree (a .before)))
+    get-found _ _ _ _ _ _ _ _ _ _ (wide-is (a .before)) (huge-is (a .before)) (groups-are (tree (a .before)))
     (first-found _ _ _ (a .loop .inv .2) in-loop (answer e ∙ c .before .before .before .before .if1 .taken))
     in-loop (rw (a .loop .inv .0, a .loop .inv .1) at (c .before .before .take .ensures))
 
 add-at : tie.Need-add-at Inv-loop μ-loop
-add-at c =
-    let a = c .before .before .before .before in
-    omega (arith, ends a, tree (a .before) .low)
-
-add-j : tie.Need-add-j Inv-loop μ-loop
-add-j c = search needs
-
-loop-less : tie.Need-loop-less Inv-loop μ-loop
-loop-less c = search needs
+add-at c = let a = c .before .before .before .before in omega (arith, ends a, tree (a .before) .low)
 
 loop-again : tie.Need-loop-again Inv-loop μ-loop
 loop-again c =
@@ -181,15 +143,11 @@ loop-again c =
       first-more _ _ _ (a .loop .inv .2) (e .before .before .loop-test .taken) (answer e ∙ c .before .if1 .left),
     )
 
-same-length-2 : tie.Need-same-length-2 Inv-loop μ-loop
-same-length-2 c = ap length (c .before .loop .inv .0)
-
 returns-2 : tie.Need-returns-2 Inv-loop μ-loop
 returns-2 c =
     let a = c .before in
-    let s = start (a .before) .args in
     rw (a .loop .inv .0)
-    (get-none (s .h) (s .n) (s .t) (s .entries .now) (s .row) (s .order) _ _ _ _ (wide-is (a .before)) (huge-is (a .before)) (groups-are (tree (a .before)))
+    (get-none _ _ _ _ _ _ _ _ _ _ (wide-is (a .before)) (huge-is (a .before)) (groups-are (tree (a .before)))
     (first-none _ _ _ (a .loop .inv .2) (c .loop-test .left)) (c .loop-test .left))
 
 pub get-spec : {M : Type 1} → statement M
@@ -198,29 +156,29 @@ get-spec =
     (tie.spec
     Inv-loop
     μ-loop
-    tree-log-requires
-    row-huge-requires
+    (λ c κs. search needs)
+    (λ c κs. search needs)
     huge-tree-requires
     tree-huge-requires
-    sub-size
+    (λ c. search needs)
     size-requires
-    whole-requires
+    (λ c κs. search needs)
     add-end
-    sub-huge-child
+    (λ c. search needs)
     huge-child-requires
     sub-at
     add-size
-    sub-size-2
+    (λ c. search needs)
     size-requires-2
     loop-holds
     are-requires
-    add-take
+    (λ c. search needs)
     take-requires
     same-length
     returns
     add-at
-    add-j
-    loop-less
+    (λ c. search needs)
+    (λ c. search needs)
     loop-again
-    same-length-2
+    (λ c. search needs)
     returns-2)

@@ -7,19 +7,8 @@ use Rattle.rules.proofs.GroupCases.{free-by-entries}
 use Rattle.huge.proofs.is_free.Statement.{statement}
 use Rattle.huge.proofs.is_free.Tie as tie
 
-whole-requires : tie.Need-whole-requires
-whole-requires c κs = search needs
-
-frame-huge-requires : tie.Need-frame-huge-requires
-frame-huge-requires c κs = search needs
-
-sub-size : tie.Need-sub-size
-sub-size c = search needs
-
 size-requires : tie.Need-size-requires
-size-requires c κs =
-    let b = c .before .before .before .pre .2 .3 in
-    omega (arith, order-low _ (b .sized) (b .top))
+size-requires c κs = let b = c .before .before .before .pre .2 .3 in omega (arith, order-low _ (b .sized) (b .top))
 
 are-requires : tie.Need-are-requires
 are-requires c κs =
@@ -29,10 +18,7 @@ are-requires c κs =
 returns : tie.Need-returns
 returns c =
     let at = c .before .before in
-    let w = at .before in
-    let s = w .before .before .args in
-    c .are .ensures
-    ∙ free-by-entries (s .h) (s .entries .now) (s .frame) (s .order) _ _ (at .frame-huge .ensures) (c .before .size .ensures) _ (w .whole .ensures)
+    c .are .ensures ∙ free-by-entries _ _ _ _ _ _ (at .frame-huge .ensures) (c .before .size .ensures) _ (at .before .whole .ensures)
 
 pub is-free-spec : {M : Type 1} → statement M
-is-free-spec = tie.close (tie.spec whole-requires frame-huge-requires sub-size size-requires are-requires returns)
+is-free-spec = tie.close (tie.spec (λ c κs. search needs) (λ c κs. search needs) (λ c. search needs) size-requires are-requires returns)

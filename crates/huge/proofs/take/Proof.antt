@@ -1,5 +1,4 @@
 -- `huge::take` meets its contract: the test on the group's end tells the case. Assumes nothing.
-
 use Prim.Native.Nat.{_+_, _*_, _^_, _≤_}
 use native.Mathlib.Nat.{mul-le-mul}
 use native.Mathlib.Omega.{arith}
@@ -9,9 +8,6 @@ use Rattle.rules.proofs.GroupCases.{take-done, take-past}
 use Rattle.huge.proofs.take.Statement.{statement}
 use Rattle.huge.proofs.take.Tie as tie
 
-add-huge-frame : tie.Need-add-huge-frame
-add-huge-frame c = search needs
-
 huge-frame-requires : tie.Need-huge-frame-requires
 huge-frame-requires c κs =
     let s = c .before in
@@ -19,35 +15,21 @@ huge-frame-requires c κs =
     (s .pre .0, omega arith)
 
 returns : tie.Need-returns
-returns c =
-    let s = c .before .before .before in
-    take-past (s .args .h) (s .args .n) (s .args .entries .now) (s .args .at) (s .args .g) (s .args .probes) (rw (c .before .huge-frame .ensures) at (c .if1 .taken))
-
-fill-requires : tie.Need-fill-requires
-fill-requires c κs = search needs
-
-huge-frame-requires-2 : tie.Need-huge-frame-requires-2
-huge-frame-requires-2 c κs = search needs
-
-same-length : tie.Need-same-length
-same-length c = search needs
+returns c = take-past _ _ _ _ _ _ (rw (c .before .huge-frame .ensures) at (c .if1 .taken))
 
 returns-2 : tie.Need-returns-2
 returns-2 c =
     let w = c .before .before .before in
-    let f = w .before .before .before in
-    let s = f .before .before in
-    rw (c .huge-frame2 .ensures, w .fill .ensures)
-    (take-done (s .args .h) (s .args .n) (s .args .entries .now) (s .args .at) (s .args .g) (s .args .probes) (rw (f .huge-frame .ensures) at (w .before .before .if1 .left)))
+    rw (c .huge-frame2 .ensures, w .fill .ensures) (take-done _ _ _ _ _ _ (rw (w .before .before .before .huge-frame .ensures) at (w .before .before .if1 .left)))
 
 pub take-spec : {M : Type 1} → statement M
 take-spec =
     tie.close
     (tie.spec
-    add-huge-frame
+    (λ c. search needs)
     huge-frame-requires
     returns
-    fill-requires
-    huge-frame-requires-2
-    same-length
+    (λ c κs. search needs)
+    (λ c κs. search needs)
+    (λ c. search needs)
     returns-2)

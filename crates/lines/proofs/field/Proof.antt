@@ -4,15 +4,6 @@ use Rattle.lines.proofs.Cases.{field-there, field-none, field-past}
 use Rattle.lines.proofs.field.Statement.{statement}
 use Rattle.lines.proofs.field.Tie as tie
 
-shared-slice-read-if2 : tie.Need-shared-slice-read-if2
-shared-slice-read-if2 c = search needs
-
-add-read : tie.Need-add-read
-add-read c = search needs
-
-read-requires : tie.Need-read-requires
-read-requires c κs = search needs
-
 returns : tie.Need-returns
 returns c =
     let a = c .before .before .before .before .before .args in
@@ -26,4 +17,4 @@ returns-3 c = let a = c .before .before .args in field-past (a .line .now) (a .a
 
 pub field-spec : {M : Type 1} → statement M
 field-spec =
-    tie.close (tie.spec shared-slice-read-if2 add-read read-requires returns returns-2 returns-3)
+    tie.close (tie.spec (λ c. search needs) (λ c. search needs) (λ c κs. search needs) returns returns-2 returns-3)

@@ -8,6 +8,7 @@ use borrow.Author.Needs.{needs}
 use Rattle.base.specs.Code.{out}
 use Rattle.decimal.specs.Decimal.{decimal}
 use Rattle.lines.specs.declared.Answer.{Answer}
+use Rattle.lines.specs.Bytes.{LF}
 use Rattle.lines.specs.Read.{fieldsText}
 use Rattle.lines.specs.Answer.{textTo, answerText, answerTo}
 use Rattle.lines.proofs.Pastes.{text-behind, text-byte, text-number, text-ends}
@@ -54,12 +55,6 @@ end-room c =
       c .write-fields .kept .0,
     )
 
-cast-write : tie.Need-cast-write
-cast-write c = search needs
-
-write-requires : tie.Need-write-requires
-write-requires c κs = search needs
-
 write-fields-requires : tie.Need-write-fields-requires
 write-fields-requires c κs = omega (arith, code-room (c .before .before .before))
 
@@ -80,15 +75,15 @@ returns c =
     let end = c .before .before in
     let a = start (first end) .args in
     let r = a .answer in
-    text-behind (a .text .now) (decimal (r .code) ++ fieldsOf r) (10 ∷ []) (a .at) (omega (arith, numbers-short (r .code) (r .fields) (r .a) (r .b) (r .c)))
-    (numbers end) (text-byte (end .write-fields .last .0) (end .write-fields .result) 10 (end-room end))
+    text-behind (a .text .now) (decimal (r .code) ++ fieldsOf r) (LF ∷ []) (a .at) (omega (arith, numbers-short (r .code) (r .fields) (r .a) (r .b) (r .c)))
+    (numbers end) (text-byte (end .write-fields .last .0) (end .write-fields .result) LF (end-room end))
 
 pub write-spec : {M : Type 1} → statement M
 write-spec =
     tie.close
     (tie.spec
-    cast-write
-    write-requires
+    (λ c. search needs)
+    (λ c κs. search needs)
     write-fields-requires
     slice-write-text
     add-result

@@ -57,29 +57,17 @@ three c =
 returns : tie.Need-returns
 returns c = rw (c .if1 .taken) (text-none (c .before .before .before .args .text .now) (c .before .before .before .args .at))
 
-write-field-requires : tie.Need-write-field-requires
-write-field-requires c κs = search needs
-
-same-length : tie.Need-same-length
-same-length c = search needs
-
 returns-2 : tie.Need-returns-2
 returns-2 c = rw (c .if2 .taken) (one (c .before .before .before .before))
 
 write-field-requires-2 : tie.Need-write-field-requires-2
 write-field-requires-2 c κs = omega (arith, one-room (c .before .before .before .before .before))
 
-same-length-2 : tie.Need-same-length-2
-same-length-2 c = search needs
-
 returns-3 : tie.Need-returns-3
 returns-3 c = rw (c .if3 .taken) (two (c .before .before .before .before))
 
 write-field-requires-3 : tie.Need-write-field-requires-3
 write-field-requires-3 c κs = omega (arith, two-room (c .before .before .before .before .before))
-
-same-length-3 : tie.Need-same-length-3
-same-length-3 c = search needs
 
 returns-4 : tie.Need-returns-4
 returns-4 c =
@@ -95,12 +83,12 @@ write-fields-spec =
     tie.close
     (tie.spec
     returns
-    write-field-requires
-    same-length
+    (λ c κs. search needs)
+    (λ c. search needs)
     returns-2
     write-field-requires-2
-    same-length-2
+    (λ c. search needs)
     returns-3
     write-field-requires-3
-    same-length-3
+    (λ c. search needs)
     returns-4)

@@ -9,23 +9,12 @@ use Rattle.rules.specs.Starts as spec
 use Rattle.lower_h.proofs.free_all.Statement.{statement}
 use Rattle.lower_h.proofs.free_all.Tie as tie
 
-sizes-requires : tie.Need-sizes-requires
-sizes-requires c κs = search needs
-
 returns : tie.Need-returns
 unfolding spec.freeAll
 returns c = refuses _ _ (λ r. r) (c .before .sizes .ensures) (c .if1 .taken)
 
 free-all-requires : tie.Need-free-all-requires
-free-all-requires c κs =
-    let k = c .before .before in
-    (k .before .before .before .before .pre, sized _ _ _ _ _ (sym (k .before .sizes .ensures) ∙ k .if1 .left))
-
-same-length : tie.Need-same-length
-same-length c = search needs
-
-same-length-2 : tie.Need-same-length-2
-same-length-2 c = search needs
+free-all-requires c κs = let k = c .before .before in (k .before .before .before .before .pre, sized _ _ _ _ (sym (k .before .sizes .ensures) ∙ k .if1 .left))
 
 returns-2 : tie.Need-returns-2
 unfolding spec.freeAll
@@ -35,4 +24,4 @@ returns-2 c =
     does-it _ _ _ (sym (k .before .sizes .ensures) ∙ k .if1 .left) (ap (λ (m : Mem). out 0 m) (f .free-all .ensures))
 
 pub free-all-spec : {M : Type 1} → statement M
-free-all-spec = tie.close (tie.spec sizes-requires returns free-all-requires same-length same-length-2 returns-2)
+free-all-spec = tie.close (tie.spec (λ c κs. search needs) returns free-all-requires (λ c. search needs) (λ c. search needs) returns-2)

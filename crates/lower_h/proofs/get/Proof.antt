@@ -1,7 +1,6 @@
 -- `lower_h::get` meets its contract: refused, or done below or from the huge order on. Assumes nothing.
 use mathlib.Core.Path.{sym, ap, _∙_}
 use borrow.Author.Needs.{needs}
-use Rattle.rules.specs.Get.{got}
 use Rattle.rules.specs.State.{mem, onEntries}
 use Rattle.rules.proofs.Lent.{started}
 use Rattle.base.proofs.Codes.{refuses, does-it}
@@ -10,23 +9,14 @@ use Rattle.rules.specs.Get as spec
 use Rattle.lower_h.proofs.get.Statement.{statement}
 use Rattle.lower_h.proofs.get.Tie as tie
 
-start-requires : tie.Need-start-requires
-start-requires c κs = search needs
-
 returns : tie.Need-returns
 unfolding spec.get
-returns c = refuses _ _ (λ r. got r 0 0) (c .before .start .ensures) (c .if1 .taken)
+returns c = refuses _ _ (λ r. spec.got r 0 0) (c .before .start .ensures) (c .if1 .taken)
 
 get-requires : tie.Need-get-requires
 get-requires c κs =
     let k = c .before .before .before in
-    (k .before .before .before .before .pre, c .before .before .if2 .taken, started _ _ _ _ _ _ _ (sym (k .before .start .ensures) ∙ k .if1 .left))
-
-same-length : tie.Need-same-length
-same-length c = search needs
-
-same-length-2 : tie.Need-same-length-2
-same-length-2 c = search needs
+    (k .before .before .before .before .pre, c .before .before .if2 .taken, started _ _ _ _ _ _ (sym (k .before .start .ensures) ∙ k .if1 .left))
 
 returns-2 : tie.Need-returns-2
 unfolding spec.get
@@ -39,10 +29,7 @@ returns-2 c =
 get-requires-2 : tie.Need-get-requires-2
 get-requires-2 c κs =
     let k = c .before .before in
-    (k .before .before .before .before .pre, c .before .if2 .left, (_, started _ _ _ _ _ _ _ (sym (k .before .start .ensures) ∙ k .if1 .left)))
-
-same-length-3 : tie.Need-same-length-3
-same-length-3 c = search needs
+    (k .before .before .before .before .pre, c .before .if2 .left, (_, started _ _ _ _ _ _ (sym (k .before .start .ensures) ∙ k .if1 .left)))
 
 returns-3 : tie.Need-returns-3
 unfolding spec.get
@@ -53,4 +40,4 @@ returns-3 c =
     does-it _ _ _ (sym (k .before .start .ensures) ∙ k .if1 .left) (by-huge _ _ (t .if2 .left) (ap (onEntries (mem (k .before .before .before .before .args .rows .now) (k .before .before .before .before .args .entries .now))) (f .get2 .ensures)))
 
 pub get-spec : {M : Type 1} → statement M
-get-spec = tie.close (tie.spec start-requires returns get-requires same-length same-length-2 returns-2 get-requires-2 same-length-3 returns-3)
+get-spec = tie.close (tie.spec (λ c κs. search needs) returns get-requires (λ c. search needs) (λ c. search needs) returns-2 get-requires-2 (λ c. search needs) returns-3)

@@ -2,7 +2,6 @@
 use mathlib.Core.Path.{sym, ap, _∙_}
 use lib.ListN.{length}
 use borrow.Author.Needs.{needs}
-use Rattle.rules.specs.Get.{got}
 use Rattle.rules.specs.State.{mem, onEntries}
 use Rattle.rules.proofs.Lent.{blocked}
 use Rattle.base.proofs.Codes.{refuses, does-it}
@@ -11,24 +10,15 @@ use Rattle.rules.specs.Get as spec
 use Rattle.lower_h.proofs.get_at.Statement.{statement}
 use Rattle.lower_h.proofs.get_at.Tie as tie
 
-block-requires : tie.Need-block-requires
-block-requires c κs = search needs
-
 returns : tie.Need-returns
 unfolding spec.getAt
-returns c = refuses _ _ (λ r. got r 0 0) (c .before .block .ensures) (c .if1 .taken)
+returns c = refuses _ _ (λ r. spec.got r 0 0) (c .before .block .ensures) (c .if1 .taken)
 
 get-at-requires : tie.Need-get-at-requires
 get-at-requires c κs =
     let k = c .before .before .before in
     let a = k .before .before .before .before .args in
-    (k .before .before .before .before .pre, c .before .before .if2 .taken, (a .n, a .t, blocked _ _ _ _ _ _ _ (sym (k .before .block .ensures) ∙ k .if1 .left)))
-
-same-length : tie.Need-same-length
-same-length c = search needs
-
-same-length-2 : tie.Need-same-length-2
-same-length-2 c = search needs
+    (k .before .before .before .before .pre, c .before .before .if2 .taken, (a .n, a .t, blocked _ _ _ _ _ _ (sym (k .before .block .ensures) ∙ k .if1 .left)))
 
 returns-2 : tie.Need-returns-2
 unfolding spec.getAt
@@ -42,10 +32,7 @@ get-at-requires-2 : tie.Need-get-at-requires-2
 get-at-requires-2 c κs =
     let k = c .before .before in
     let a = k .before .before .before .before .args in
-    (k .before .before .before .before .pre, c .before .if2 .left, (a .n, a .t, length (a .rows .now), blocked _ _ _ _ _ _ _ (sym (k .before .block .ensures) ∙ k .if1 .left)))
-
-same-length-3 : tie.Need-same-length-3
-same-length-3 c = search needs
+    (k .before .before .before .before .pre, c .before .if2 .left, (a .n, a .t, length (a .rows .now), blocked _ _ _ _ _ _ (sym (k .before .block .ensures) ∙ k .if1 .left)))
 
 returns-3 : tie.Need-returns-3
 unfolding spec.getAt
@@ -56,4 +43,4 @@ returns-3 c =
     does-it _ _ _ (sym (k .before .block .ensures) ∙ k .if1 .left) (by-huge _ _ (t .if2 .left) (ap (onEntries (mem (k .before .before .before .before .args .rows .now) (k .before .before .before .before .args .entries .now))) (f .get-at2 .ensures)))
 
 pub get-at-spec : {M : Type 1} → statement M
-get-at-spec = tie.close (tie.spec block-requires returns get-at-requires same-length same-length-2 returns-2 get-at-requires-2 same-length-3 returns-3)
+get-at-spec = tie.close (tie.spec (λ c κs. search needs) returns get-at-requires (λ c. search needs) (λ c. search needs) returns-2 get-at-requires-2 (λ c. search needs) returns-3)

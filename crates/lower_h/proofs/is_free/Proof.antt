@@ -10,9 +10,6 @@ use Rattle.lower_h.proofs.Cases.{by-small, by-huge}
 use Rattle.lower_h.proofs.is_free.Statement.{statement}
 use Rattle.lower_h.proofs.is_free.Tie as tie
 
-block-requires : tie.Need-block-requires
-block-requires c κs = search needs
-
 returns : tie.Need-returns
 unfolding spec.isFree
 returns c = rw (ne-eqb _ 0 (λ z. c .if1 .taken (c .before .block .ensures ∙ z)), c .before .block .ensures)
@@ -21,7 +18,7 @@ is-free-requires : tie.Need-is-free-requires
 is-free-requires c κs =
     let k = c .before in
     let a = k .before .before .before .before .args in
-    (k .before .before .before .before .pre, c .if2 .taken, (a .n, a .t, blocked _ _ _ _ _ _ _ (sym (k .before .block .ensures) ∙ k .if1 .left)))
+    (k .before .before .before .before .pre, c .if2 .taken, (a .n, a .t, blocked _ _ _ _ _ _ (sym (k .before .block .ensures) ∙ k .if1 .left)))
 
 returns-2 : tie.Need-returns-2
 unfolding spec.isFree
@@ -33,7 +30,7 @@ is-free-requires-2 : tie.Need-is-free-requires-2
 is-free-requires-2 c κs =
     let k = c .before in
     let a = k .before .before .before .before .args in
-    (k .before .before .before .before .pre, c .if2 .left, (a .n, a .t, length (a .rows .now), blocked _ _ _ _ _ _ _ (sym (k .before .block .ensures) ∙ k .if1 .left)))
+    (k .before .before .before .before .pre, c .if2 .left, (a .n, a .t, length (a .rows .now), blocked _ _ _ _ _ _ (sym (k .before .block .ensures) ∙ k .if1 .left)))
 
 returns-3 : tie.Need-returns-3
 unfolding spec.isFree
@@ -42,4 +39,4 @@ returns-3 c =
     rw (eq-eqb _ 0 (sym (k .before .block .ensures) ∙ k .if1 .left)) (ap (answered 0) (by-huge _ _ (c .before .if2 .left) (c .is-free2 .ensures)))
 
 pub is-free-spec : {M : Type 1} → statement M
-is-free-spec = tie.close (tie.spec block-requires returns is-free-requires returns-2 is-free-requires-2 returns-3)
+is-free-spec = tie.close (tie.spec (λ c κs. search needs) returns is-free-requires returns-2 is-free-requires-2 returns-3)

@@ -10,9 +10,6 @@ use Rattle.rules.specs.Put as spec
 use Rattle.lower_h.proofs.put.Statement.{statement}
 use Rattle.lower_h.proofs.put.Tie as tie
 
-block-requires : tie.Need-block-requires
-block-requires c κs = search needs
-
 returns : tie.Need-returns
 unfolding spec.put
 returns c = refuses _ _ (λ r. r) (c .before .block .ensures) (c .if1 .taken)
@@ -21,13 +18,7 @@ put-requires : tie.Need-put-requires
 put-requires c κs =
     let k = c .before .before .before in
     let a = k .before .before .before .before .args in
-    (k .before .before .before .before .pre, c .before .before .if2 .taken, (a .n, a .t, blocked _ _ _ _ _ _ _ (sym (k .before .block .ensures) ∙ k .if1 .left)))
-
-same-length : tie.Need-same-length
-same-length c = search needs
-
-same-length-2 : tie.Need-same-length-2
-same-length-2 c = search needs
+    (k .before .before .before .before .pre, c .before .before .if2 .taken, (a .n, a .t, blocked _ _ _ _ _ _ (sym (k .before .block .ensures) ∙ k .if1 .left)))
 
 returns-2 : tie.Need-returns-2
 unfolding spec.put
@@ -41,10 +32,7 @@ put-requires-2 : tie.Need-put-requires-2
 put-requires-2 c κs =
     let k = c .before .before in
     let a = k .before .before .before .before .args in
-    (k .before .before .before .before .pre, c .before .if2 .left, (a .n, a .t, length (a .rows .now), blocked _ _ _ _ _ _ _ (sym (k .before .block .ensures) ∙ k .if1 .left)))
-
-same-length-3 : tie.Need-same-length-3
-same-length-3 c = search needs
+    (k .before .before .before .before .pre, c .before .if2 .left, (a .n, a .t, length (a .rows .now), blocked _ _ _ _ _ _ (sym (k .before .block .ensures) ∙ k .if1 .left)))
 
 returns-3 : tie.Need-returns-3
 unfolding spec.put
@@ -55,4 +43,4 @@ returns-3 c =
     does-it _ _ _ (sym (k .before .block .ensures) ∙ k .if1 .left) (by-huge _ _ (t .if2 .left) (ap (onEntries (mem (k .before .before .before .before .args .rows .now) (k .before .before .before .before .args .entries .now))) (f .put2 .ensures)))
 
 pub put-spec : {M : Type 1} → statement M
-put-spec = tie.close (tie.spec block-requires returns put-requires same-length same-length-2 returns-2 put-requires-2 same-length-3 returns-3)
+put-spec = tie.close (tie.spec (λ c κs. search needs) returns put-requires (λ c. search needs) (λ c. search needs) returns-2 put-requires-2 (λ c. search needs) returns-3)

@@ -9,9 +9,6 @@ use Rattle.rules.specs.Starts as spec
 use Rattle.lower_h.proofs.reserve_all.Statement.{statement}
 use Rattle.lower_h.proofs.reserve_all.Tie as tie
 
-sizes-requires : tie.Need-sizes-requires
-sizes-requires c κs = search needs
-
 returns : tie.Need-returns
 unfolding spec.reserveAll
 returns c = refuses _ _ (λ r. r) (c .before .sizes .ensures) (c .if1 .taken)
@@ -19,13 +16,7 @@ returns c = refuses _ _ (λ r. r) (c .before .sizes .ensures) (c .if1 .taken)
 reserve-all-requires : tie.Need-reserve-all-requires
 reserve-all-requires c κs =
     let k = c .before .before in
-    (k .before .before .before .before .pre, sized _ _ _ _ _ (sym (k .before .sizes .ensures) ∙ k .if1 .left))
-
-same-length : tie.Need-same-length
-same-length c = search needs
-
-same-length-2 : tie.Need-same-length-2
-same-length-2 c = search needs
+    (k .before .before .before .before .pre, sized _ _ _ _ (sym (k .before .sizes .ensures) ∙ k .if1 .left))
 
 returns-2 : tie.Need-returns-2
 unfolding spec.reserveAll
@@ -35,4 +26,4 @@ returns-2 c =
     does-it _ _ _ (sym (k .before .sizes .ensures) ∙ k .if1 .left) (ap (λ (m : Mem). out 0 m) (f .reserve-all .ensures))
 
 pub reserve-all-spec : {M : Type 1} → statement M
-reserve-all-spec = tie.close (tie.spec sizes-requires returns reserve-all-requires same-length same-length-2 returns-2)
+reserve-all-spec = tie.close (tie.spec (λ c κs. search needs) returns reserve-all-requires (λ c. search needs) (λ c. search needs) returns-2)

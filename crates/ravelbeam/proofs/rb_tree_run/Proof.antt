@@ -1,44 +1,48 @@
 -- `ravelbeam::rb_tree_run` meets its contract: 0 and 0 where it is refused, or where the frame's tree begins and T. Assumes nothing.
-use mathlib.Core.Path.{sym, ap, _∙_}
-use Prim.Native.Nat.{ℕ}
+use mathlib.Core.Path.{_≡_, sym, ap, ap₂, _∙_}
 use native.Mathlib.Omega.{arith}
 use borrow.Author.Needs.{needs}
 use lib.ListN.{length}
-use Rattle.base.specs.Size.{hugeOrder}
+use Rattle.base.specs.Size.{Huge, hugeOrder}
 use Rattle.base.proofs.Codes.{refused, answered}
-use Rattle.rules.specs.Refusals.{Framed}
+use Rattle.rules.specs.State.{mem}
+use Rattle.rules.specs.Refusals.{frameRefusal}
 use Rattle.rules.proofs.Lent.{framed}
 use Rattle.ravelbeam.specs.Run.{run, treeRun}
+use Rattle.ravelbeam.proofs.Runs.{run-refused, run-long}
 use Rattle.ravelbeam.proofs.rb_tree_run.Statement.{statement}
 use Rattle.ravelbeam.proofs.rb_tree_run.Tie as tie
 
--- past the refusals
-within : (e : tie.Else1)
-    → let s = e .before .before .before .before .args in Framed hugeOrder (s .n) (s .t) (length (s .rows .now)) (length (s .entries .now)) (s .frame)
-within e = framed _ _ _ _ _ _ (sym (e .before .tree-run-code .ensures) ∙ e .if1 .left)
+nine : Huge hugeOrder
+nine = record { low = omega arith; high = omega arith }
 
-tree-run-code-requires : tie.Need-tree-run-code-requires
-tree-run-code-requires c κs = search needs
+-- past the refusals
+passed : (e : tie.Else1) → let s = e .before .before .before .before .before .args in frameRefusal hugeOrder (s .n) (s .t) (mem (s .rows .now) (s .entries .now)) (s .frame) ≡ 0
+passed e = sym (e .before .before .tree-run-code .ensures) ∙ e .if1 .left
 
 returns : tie.Need-returns
 unfolding treeRun
-returns c = refused _ (λ r. run r 0 0) (c .before .tree-run-code .ensures) (c .if1 .taken)
+returns c =
+    let code = c .before .before .tree-run-code .ensures in
+    ap (run _ 0) (ap length (c .before .tree-run .ensures) ∙ run-refused _ _ _ _ _ (λ e. c .if1 .taken (code ∙ e))) ∙ refused _ (λ r. run r 0 0) code (c .if1 .taken)
 
 tree-first-requires : tie.Need-tree-first-requires
-tree-first-requires c κs = (record { low = omega arith; high = omega arith }, within c .sized .tree)
+tree-first-requires c κs =
+    let s = c .before .before .before .before .before .args in
+    (nine, framed hugeOrder (s .n) (s .t) _ (s .frame) (passed c) .sized .tree)
 
 returns-2 : tie.Need-returns-2
 unfolding treeRun
 returns-2 c =
     let k = c .before in
-    let t = k .before .before .before .before .args .t in
-    answered _ _ (sym (k .before .tree-run-code .ensures) ∙ k .if1 .left) (ap (λ (o : ℕ). run 0 o t) (c .tree-first .ensures))
+    answered _ _ (passed k) (ap₂ (run 0) (c .tree-first .ensures) (ap length (k .before .tree-run .ensures) ∙ run-long nine _ _ _ _ (passed k)))
 
 pub rb-tree-run-spec : {M : Type 1} → statement M
 rb-tree-run-spec =
     tie.close
     (tie.spec
-    tree-run-code-requires
+    (λ c κs. search needs)
+    (λ c κs. search needs)
     returns
     tree-first-requires
     returns-2)

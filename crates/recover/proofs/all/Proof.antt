@@ -15,27 +15,16 @@ Inv-loop h n t rows₀ entries₀ present changed₀ cleared₀ x₀ rows entrie
 abbrev μ-loop : tie.MeasureT-loop
 μ-loop h n t rows₀ entries₀ present changed₀ cleared₀ x₀ rows entries changed cleared x = present - x
 
-is-blocked-requires : tie.Need-is-blocked-requires Inv-loop μ-loop
-is-blocked-requires c κs = search needs
-
-same-length : tie.Need-same-length Inv-loop μ-loop
-same-length c = search needs
-
-same-length-2 : tie.Need-same-length-2 Inv-loop μ-loop
-same-length-2 c = search needs
-
 returns : tie.Need-returns Inv-loop μ-loop
 returns c = refuses _ _ _ _ _ (c .before .is-blocked .ensures) (c .if1 .taken)
 
-sub-frame-huge : tie.Need-sub-frame-huge Inv-loop μ-loop
-sub-frame-huge c = search needs
-
-frame-huge-requires : tie.Need-frame-huge-requires Inv-loop μ-loop
-frame-huge-requires c κs = search needs
+-- the function's entry, from where the last present huge frame is known
+abbrev entry : tie.After-frame-huge Inv-loop μ-loop → tie.Start Inv-loop μ-loop
+entry f = f .before .before .before .before .before .before .before
 
 -- the last present huge frame's number is small
-low : (c : tie.After-frame-huge Inv-loop μ-loop) → c .frame-huge .result < 1048576
-low c = last-low (c .before .before .before .before .before .before .before .pre .1) (c .frame-huge .ensures)
+low : (f : tie.After-frame-huge Inv-loop μ-loop) → f .frame-huge .result < 1048576
+low f = last-low (entry f .pre .1) (f .frame-huge .ensures)
 
 add-present : tie.Need-add-present Inv-loop μ-loop
 add-present c = omega (arith, low c)
@@ -46,7 +35,7 @@ loop-holds c = mend-start (mem _ _)
 mend-requires : tie.Need-mend-requires Inv-loop μ-loop
 mend-requires c κs =
     let at = c .before .before .before in
-    let pre = at .before .before .before .before .before .before .before .before .pre in
+    let pre = entry (at .before) .pre in
     mend-asked (pre .0) _ _ (pre .1) (at .before .frame-huge .ensures) (at .loop .inv) (c .before .before .loop-test .taken)
 
 -- after a turn the totals are still at most the huge frames passed
@@ -54,41 +43,27 @@ totals : (c : tie.After-mend Inv-loop μ-loop) → let at = c .before .before .b
     (at .changed + c .mend .result .entries ≤ at .x + 1) × (at .cleared + c .mend .result .bitfields ≤ at .x + 1)
 totals c =
     let at = c .before .before .before .before in
-    let pre = at .before .before .before .before .before .before .before .before .pre in
-    totals-low _ (mend-more _ (at .loop .inv) (pre .0) (c .before .before .before .loop-test .taken) (c .mend .ensures))
+    totals-low _ (mend-more _ (at .loop .inv) (entry (at .before) .pre .0) (c .before .before .before .loop-test .taken) (c .mend .ensures))
 
 add-changed : tie.Need-add-changed Inv-loop μ-loop
-add-changed c =
-    let m = c .before .before .before .before .before in
-    omega (arith, low (m .before .before .before .before .before), totals m .0)
+add-changed c = let m = c .before .before .before .before .before in omega (arith, low (m .before .before .before .before .before), totals m .0)
 
 add-cleared : tie.Need-add-cleared Inv-loop μ-loop
-add-cleared c =
-    let m = c .before .before .before .before .before .before in
-    omega (arith, low (m .before .before .before .before .before), totals m .1)
+add-cleared c = let m = c .before .before .before .before .before .before in omega (arith, low (m .before .before .before .before .before), totals m .1)
 
 add-x : tie.Need-add-x Inv-loop μ-loop
 add-x c = omega (arith, low (c .before .before .before .before .before .before .before .before .before .before .before))
-
-loop-less : tie.Need-loop-less Inv-loop μ-loop
-loop-less c = search needs
 
 loop-again : tie.Need-loop-again Inv-loop μ-loop
 loop-again c =
     let d = c .before .before .before .before .before .before in
     let at = d .before .before .before .before in
-    mend-more _ (at .loop .inv) (at .before .before .before .before .before .before .before .before .pre .0) (d .before .before .before .loop-test .taken) (d .mend .ensures)
-
-same-length-3 : tie.Need-same-length-3 Inv-loop μ-loop
-same-length-3 c = c .before .loop .inv .rows-long
-
-same-length-4 : tie.Need-same-length-4 Inv-loop μ-loop
-same-length-4 c = c .before .loop .inv .entries-long
+    mend-more _ (at .loop .inv) (entry (at .before) .pre .0) (d .before .before .before .loop-test .taken) (d .mend .ensures)
 
 returns-2 : tie.Need-returns-2 Inv-loop μ-loop
 returns-2 c =
     let f = c .before .before in
-    let pre = f .before .before .before .before .before .before .before .pre in
+    let pre = entry f .pre in
     recovers (pre .0) _ _ (pre .1) (f .frame-huge .ensures) (f .before .before .is-blocked .ensures) (f .before .if1 .left) (c .before .loop .inv) (c .loop-test .left)
 
 pub all-spec : {M : Type 1} → statement M
@@ -97,20 +72,20 @@ all-spec =
     (tie.spec
     Inv-loop
     μ-loop
-    is-blocked-requires
-    same-length
-    same-length-2
+    (λ c κs. search needs)
+    (λ c. search needs)
+    (λ c. search needs)
     returns
-    sub-frame-huge
-    frame-huge-requires
+    (λ c. search needs)
+    (λ c κs. search needs)
     add-present
     loop-holds
     mend-requires
     add-changed
     add-cleared
     add-x
-    loop-less
+    (λ c. search needs)
     loop-again
-    same-length-3
-    same-length-4
+    (λ c. search needs)
+    (λ c. search needs)
     returns-2)

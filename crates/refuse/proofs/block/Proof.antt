@@ -7,9 +7,6 @@ use Rattle.refuse.proofs.Refusals.{order-low, size-past, end-past, end-
 use Rattle.refuse.proofs.block.Statement.{statement}
 use Rattle.refuse.proofs.block.Tie as tie
 
-orders-requires : tie.Need-orders-requires
-orders-requires c κs = search needs
-
 returns : tie.Need-returns
 returns c = stops _ (c .before .orders .ensures) (c .if1 .taken) ∙ regrouped _ _ _
 
@@ -17,7 +14,7 @@ returns c = stops _ (c .before .orders .ensures) (c .if1 .taken) ∙ regrouped _
 low : (c : tie.Else1) → c .before .before .args .order < 64
 low c =
     let a = c .before .before .args in
-    order-low (a .h) (a .n) (a .t) (a .rows) (a .entries) (a .order) (sym (c .before .orders .ensures) ∙ c .if1 .left) (c .before .before .pre)
+    order-low (a .h) (a .n) (a .t) _ (a .order) (sym (c .before .orders .ensures) ∙ c .if1 .left) (c .before .before .pre)
 
 size-requires : tie.Need-size-requires
 size-requires c κs = low c
@@ -53,4 +50,4 @@ returns-5 c =
 
 pub block-spec : {M : Type 1} → statement M
 block-spec =
-    tie.close (tie.spec orders-requires returns size-requires returns-2 returns-3 is-aligned-requires returns-4 returns-5)
+    tie.close (tie.spec (λ c κs. search needs) returns size-requires returns-2 returns-3 is-aligned-requires returns-4 returns-5)

@@ -9,9 +9,6 @@ use Rattle.refuse.proofs.Refusals.{frames-some}
 use Rattle.refuse.proofs.sizes.Statement.{statement}
 use Rattle.refuse.proofs.sizes.Tie as tie
 
-frames-requires : tie.Need-frames-requires
-frames-requires c κs = search needs
-
 returns : tie.Need-returns
 returns c = stops _ (c .before .frames .ensures) (c .if1 .taken)
 
@@ -19,13 +16,8 @@ returns c = stops _ (c .before .frames .ensures) (c .if1 .taken)
 some : (c : tie.Else1) → 0 < c .before .before .args .n
 some c = frames-some _ (sym (c .before .frames .ensures) ∙ c .if1 .left)
 
-tree-requires : tie.Need-tree-requires
-tree-requires c κs = search needs
-
 returns-2 : tie.Need-returns-2
-returns-2 c =
-    let s = c .before .before in
-    passes (s .before .frames .ensures) (s .if1 .left) (stops _ (c .before .tree .ensures) (c .if2 .taken))
+returns-2 c = let s = c .before .before in passes (s .before .frames .ensures) (s .if1 .left) (stops _ (c .before .tree .ensures) (c .if2 .taken))
 
 -- T that passed its check
 tree : (c : tie.Else2) → isTree (c .before .before .before .before .args .t) ≡ true
@@ -41,4 +33,4 @@ returns-3 c =
     passes (s .before .frames .ensures) (s .if1 .left) (passes (t .before .tree .ensures) (t .if2 .left) (c .lent .ensures))
 
 pub sizes-spec : {M : Type 1} → statement M
-sizes-spec = tie.close (tie.spec frames-requires returns tree-requires returns-2 lent-requires returns-3)
+sizes-spec = tie.close (tie.spec (λ c κs. search needs) returns (λ c κs. search needs) returns-2 lent-requires returns-3)

@@ -4,9 +4,6 @@ use Rattle.base.proofs.Codes.{no-code, its-code}
 use Rattle.refuse.proofs.tree.Statement.{statement}
 use Rattle.refuse.proofs.tree.Tie as tie
 
-is-tree-requires : tie.Need-is-tree-requires
-is-tree-requires c κs = search needs
-
 returns : tie.Need-returns
 returns c = no-code _ (c .before .is-tree .ensures) (c .if1 .taken)
 
@@ -14,4 +11,4 @@ returns-2 : tie.Need-returns-2
 returns-2 c = its-code _ (c .before .is-tree .ensures) (c .if1 .left)
 
 pub tree-spec : {M : Type 1} → statement M
-tree-spec = tie.close (tie.spec is-tree-requires returns returns-2)
+tree-spec = tie.close (tie.spec (λ c κs. search needs) returns returns-2)

@@ -1,72 +1,70 @@
 -- `replay::serve` meets its contract. The loop's invariant: the lent memory keeps its lengths, and what is kept is in the line's buffer. Assumes nothing.
-use mathlib.Core.Path.{_≡_, refl, sym, ap, _∙_}
-use mathlib.Core.Logic.{⊎-elim}
-use Prim.Native.Nat.{_-_, _≤_}
+use mathlib.Core.Path.{_≡_, refl, _∙_}
+use Prim.Native.Nat.{_+_, _-_, _≤_, _<_}
 use native.Mathlib.Omega.{arith}
 use lib.ListN.{length}
-use lib.Seq.{length-take-le}
-use borrow.Author.Needs.{needs}
-use Rattle.lines.proofs.Ends.{line-ends, kept-most}
+use Rattle.dialogue.proofs.Cases.{part-long, feeds-some}
 use Rattle.replay.proofs.serve.Statement.{statement}
 use Rattle.replay.proofs.serve.Tie as tie
 
 abbrev Inv-loop : tie.InvT-loop
-Inv-loop input line₀ rows₀ entries₀ now₀ next₀ line rows entries now next =
-    (length line ≡ length line₀) × (length rows ≡ length rows₀) × (length entries ≡ length entries₀) × (now .kept ≤ 65)
+Inv-loop input line₀ rows₀ entries₀ now₀ used₀ line rows entries now used =
+    (length line ≡ length line₀) × (length rows ≡ length rows₀) × (length entries ≡ length entries₀) × (now .kept ≤ 65) × (used ≤ length input)
 
 abbrev μ-loop : tie.MeasureT-loop
-μ-loop input line₀ rows₀ entries₀ now₀ next₀ line rows entries now next = length input - next
+μ-loop input line₀ rows₀ entries₀ now₀ used₀ line rows entries now used = length input - used
 
--- the line ends where it goes on or behind, in the input
-ends : (c : tie.After-end Inv-loop μ-loop)
-    → (c .before .before .loop .next ≤ c .end .result) × (c .end .result ≤ length (c .before .before .before .before .before .before .before .args .input .now))
-ends c = line-ends _ _ (c .end .ensures) (omega arith)
+-- where the function begins, from the loop's head; the head, from where a line was fed; and that, from the end of a turn
+abbrev start : tie.At-loop Inv-loop μ-loop → tie.Start Inv-loop μ-loop
+start c = c .before .before .before .before .before
 
--- what is kept is in the line's buffer
-kept-within : (c : tie.After-keep Inv-loop μ-loop) → c .keep .result ≤ length (c .keep .last .0)
-kept-within c = omega (arith, kept-most _ _ _ (c .keep .ensures), c .keep .kept .0)
+abbrev head : tie.After-feed Inv-loop μ-loop → tie.At-loop Inv-loop μ-loop
+head c = c .before .before .before .before .before .before
+
+abbrev fed : tie.After-struct-known Inv-loop μ-loop → tie.After-feed Inv-loop μ-loop
+fed c = c .before .before .before .before .before .before .before .before .before .before .before
+
+-- how much is used after a line, and that it is more
+within : (c : tie.After-feed Inv-loop μ-loop) → head c .loop .used + c .feed .result .used ≤ length (start (head c) .args .input .now)
+within c = let at = head c in omega (arith, c .feed .ensures .within, part-long (start at .args .input .now) (at .loop .used), at .loop .inv .4)
+
+further : (c : tie.After-feed Inv-loop μ-loop) → 0 < c .feed .result .used
+further c =
+    let at = head c in
+    feeds-some _ _ _ _ (c .feed .ensures) (omega (arith, part-long (start at .args .input .now) (at .loop .used), c .before .before .before .before .before .loop-test .taken))
 
 loop-holds : tie.Need-loop-holds Inv-loop μ-loop
-loop-holds c = (refl, refl, refl, c .before .before .before .before .pre .0)
+loop-holds c = (refl, refl, refl, c .before .before .before .before .pre .kept, omega arith)
 
-end-requires : tie.Need-end-requires Inv-loop μ-loop
-end-requires c κs = search needs
+sub-feed : tie.Need-sub-feed Inv-loop μ-loop
+sub-feed c = c .before .loop .inv .4
 
-sub-keep : tie.Need-sub-keep Inv-loop μ-loop
-sub-keep c = ends (c .before) .0
+part-feed-start : tie.Need-part-feed-start Inv-loop μ-loop
+part-feed-start c = c .before .loop .inv .4
 
-part-keep-start : tie.Need-part-keep-start Inv-loop μ-loop
-part-keep-start c = ends (c .before) .0
+part-feed-end : tie.Need-part-feed-end Inv-loop μ-loop
+part-feed-end c = omega (arith, c .before .loop .inv .4)
 
-part-keep-end : tie.Need-part-keep-end Inv-loop μ-loop
-part-keep-end c = ends (c .before) .1
+feed-requires : tie.Need-feed-requires Inv-loop μ-loop
+feed-requires c κs =
+    let at = c .before .before .before .before .before in
+    record { kept = at .loop .inv .3; room = omega (arith, at .loop .inv .0, start at .pre .room) }
 
-keep-requires : tie.Need-keep-requires Inv-loop μ-loop
-keep-requires c κs = let at = c .before .before .before .before in (at .loop .inv .3, omega (arith, at .loop .inv .0))
-
-slice-reshare-prefix-answer : tie.Need-slice-reshare-prefix-answer Inv-loop μ-loop
-slice-reshare-prefix-answer c = kept-within (c .before .before .before)
-
-slice-aggregate-answer : tie.Need-slice-aggregate-answer Inv-loop μ-loop
-slice-aggregate-answer c = sym (length-take-le _ _ (kept-within (c .before .before .before .before)))
-
-answer-requires : tie.Need-answer-requires Inv-loop μ-loop
-answer-requires c κs = search needs
-
-add-next : tie.Need-add-next Inv-loop μ-loop
-add-next c = omega (arith, ends (c .before .before .before .before .before .before))
+add-used : tie.Need-add-used Inv-loop μ-loop
+add-used c = omega (arith, within (fed c), start (head (fed c)) .good)
 
 loop-less : tie.Need-loop-less Inv-loop μ-loop
-loop-less c = omega (arith, ends (c .before .before .before .before .before .before))
+loop-less c = omega (arith, within (fed c), further (fed c))
 
 loop-again : tie.Need-loop-again Inv-loop μ-loop
 loop-again c =
-    let at = c .before .before .before .before .before .before .before .before in
-    let keep = c .before .before .before .keep in (
-      keep .kept .0 ∙ at .loop .inv .0,
-      ⊎-elim (λ w. omega (arith, ap length (w .9))) (λ w. omega (arith, ap length (w .1))) (c .if1 .came),
-      ⊎-elim (λ w. omega (arith, ap length (w .10))) (λ w. omega (arith, ap length (w .2))) (c .if1 .came),
-      ⊎-elim (λ w. rw (w .11) (omega (arith, w .4 .ensures))) (λ w. rw (w .3) (kept-most _ _ _ (keep .ensures))) (c .if1 .came),
+    let line = fed c in
+    let at = head line in (
+      line .feed .kept .1 .1 .0 ∙ at .loop .inv .0,
+      line .feed .kept .1 .1 .1 .0 ∙ at .loop .inv .1,
+      line .feed .kept .1 .1 .1 .1 .0 ∙ at .loop .inv .2,
+      line .feed .ensures .kept,
+      within line,
     )
 
 same-length : tie.Need-same-length Inv-loop μ-loop
@@ -88,15 +86,12 @@ serve-spec =
     Inv-loop
     μ-loop
     loop-holds
-    end-requires
-    sub-keep
-    part-keep-start
-    part-keep-end
-    keep-requires
-    slice-reshare-prefix-answer
-    slice-aggregate-answer
-    answer-requires
-    add-next
+    sub-feed
+    part-feed-start
+    part-feed-end
+    feed-requires
+    (λ c κs. tt)
+    add-used
     loop-less
     loop-again
     same-length

@@ -20,12 +20,6 @@ Inv-loop h t entries frame counts₀ top at order₀ counts order =
 abbrev μ-loop : tie.MeasureT-loop
 μ-loop h t entries frame counts₀ top at order₀ counts order = length counts₀ - order
 
-top-order-requires : tie.Need-top-order-requires Inv-loop μ-loop
-top-order-requires c κs = search needs
-
-tree-first-requires : tie.Need-tree-first-requires Inv-loop μ-loop
-tree-first-requires c κs = search needs
-
 loop-holds : tie.Need-loop-holds Inv-loop μ-loop
 unfolding written
 loop-holds c = (omega arith, refl, refl)
@@ -35,18 +29,6 @@ at-order-requires c κs =
     let a = c .before .before in
     let pre = a .before .before .before .before .pre in
     (pre .0, pre .1 .2 .sized .tree, a .before .top-order .ensures, rw (a .tree-first .ensures) (frame-tree (pre .0) (pre .1 .2)))
-
-mul-counts : tie.Need-mul-counts Inv-loop μ-loop
-mul-counts c = search needs
-
-slice-write-counts : tie.Need-slice-write-counts Inv-loop μ-loop
-slice-write-counts c = search needs
-
-add-order : tie.Need-add-order Inv-loop μ-loop
-add-order c = search needs
-
-loop-less : tie.Need-loop-less Inv-loop μ-loop
-loop-less c = search needs
 
 loop-again : tie.Need-loop-again Inv-loop μ-loop
 loop-again c =
@@ -59,9 +41,6 @@ loop-again c =
           (rw zero-add at (written-more (spec.roomAt (s .h) (s .t) (s .entries .now) (a .before .tree-first .result)) (s .counts .now) 0 (at .order))),
     )
 
-same-length : tie.Need-same-length Inv-loop μ-loop
-same-length c = search needs
-
 returns : tie.Need-returns Inv-loop μ-loop
 returns c =
     let a = c .before in
@@ -73,14 +52,14 @@ counts-spec =
     (tie.spec
     Inv-loop
     μ-loop
-    top-order-requires
-    tree-first-requires
+    (λ c κs. search needs)
+    (λ c κs. search needs)
     loop-holds
     at-order-requires
-    mul-counts
-    slice-write-counts
-    add-order
-    loop-less
+    (λ c. search needs)
+    (λ c. search needs)
+    (λ c. search needs)
+    (λ c. search needs)
     loop-again
-    same-length
+    (λ c. search needs)
     returns)

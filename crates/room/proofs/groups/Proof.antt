@@ -22,28 +22,16 @@ Inv-loop h entries at g c free blocks₀ first₀ j₀ blocks first j = (first �
 abbrev μ-loop : tie.MeasureT-loop
 μ-loop h entries at g c free blocks₀ first₀ j₀ blocks first j = c - j
 
-whole-requires : tie.Need-whole-requires Inv-loop μ-loop
-whole-requires c κs = search needs
-
 loop-holds : tie.Need-loop-holds Inv-loop μ-loop
 loop-holds c = (omega arith, count-start)
 
 are-requires : tie.Need-are-requires Inv-loop μ-loop
 are-requires c κs = group-lent _ _ _ _ _ _ (c .before .before .before .before .pre .1) (c .loop-test .taken) (c .before .loop .inv .0)
 
-add-blocks : tie.Need-add-blocks Inv-loop μ-loop
-add-blocks c = omega (arith, c .before .before .before .loop .inv .1 .low)
-
 add-first : tie.Need-add-first Inv-loop μ-loop
 add-first c =
     let at = c .before .before .before in
     omega (arith, group-lent _ _ _ _ (at .loop .first) (at .loop .j) (at .before .before .before .pre .1) (c .before .before .loop-test .taken) (at .loop .inv .0))
-
-add-j : tie.Need-add-j Inv-loop μ-loop
-add-j c = search needs
-
-loop-less : tie.Need-loop-less Inv-loop μ-loop
-loop-less c = search needs
 
 loop-again : tie.Need-loop-again Inv-loop μ-loop
 loop-again c =
@@ -68,12 +56,12 @@ groups-spec =
     (tie.spec
     Inv-loop
     μ-loop
-    whole-requires
+    (λ c κs. search needs)
     loop-holds
     are-requires
-    add-blocks
+    (λ c. search needs)
     add-first
-    add-j
-    loop-less
+    (λ c. search needs)
+    (λ c. search needs)
     loop-again
     returns)

@@ -5,12 +5,6 @@ use Rattle.row.proofs.Lanes.{lane-law}
 use Rattle.row.proofs.clear_lane.Statement.{statement}
 use Rattle.row.proofs.clear_lane.Tie as tie
 
-wrapping-sub-u64-requires : tie.Need-wrapping-sub-u64-requires
-wrapping-sub-u64-requires c κs = search needs
-
-shr-result : tie.Need-shr-result
-shr-result c = search needs
-
 returns : tie.Need-returns
 returns c o l width =
     let s = c .before in
@@ -19,4 +13,4 @@ returns c o l width =
     (c .wrapping-sub-u64 .ensures)
 
 pub clear-lane-spec : {M : Type 1} → statement M
-clear-lane-spec = tie.close (tie.spec wrapping-sub-u64-requires shr-result returns)
+clear-lane-spec = tie.close (tie.spec (λ c κs. search needs) (λ c. search needs) returns)

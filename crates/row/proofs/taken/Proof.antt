@@ -12,9 +12,6 @@ use Rattle.row.proofs.Laws.{lowest-clear}
 use Rattle.row.proofs.taken.Statement.{statement}
 use Rattle.row.proofs.taken.Tie as tie
 
-shl-t8 : tie.Need-shl-t8
-shl-t8 c = search needs
-
 returns : tie.Need-returns
 unfolding firstZeros
 returns c o l bits is =
@@ -30,4 +27,4 @@ unfolding firstZeros
 returns-2 c o l bits is = rw (le-leb o 6 l, ← is, le-ltb _ _ (c .if1 .left))
 
 pub taken-spec : {M : Type 1} → statement M
-taken-spec = tie.close (tie.spec shl-t8 returns returns-2)
+taken-spec = tie.close (tie.spec (λ c. search needs) returns returns-2)

@@ -6,28 +6,19 @@ use Rattle.bitfield_rules.proofs.Search.{search-stores, search-stores-nothing}
 use Rattle.search.proofs.set_first_zeros.Statement.{statement}
 use Rattle.search.proofs.set_first_zeros.Tie as tie
 
-first-zeros-requires : tie.Need-first-zeros-requires
-first-zeros-requires c κs = search needs
-
 write-block-requires : tie.Need-write-block-requires
 write-block-requires c κs =
     let f = c .before .before .before in
     let s = f .before .before .before in
     in-rows (s .pre) (search-found (s .pre) _ _ _ (f .first-zeros .result .code) (f .first-zeros .result .place) (sym (f .first-zeros .ensures)) (c .before .if1 .taken) .block)
 
-same-length : tie.Need-same-length
-same-length c = search needs
-
 returns : tie.Need-returns
 returns c =
     let k = c .before .before .before .before in
     search-stores _ _ _ _ (k .before .before .first-zeros .ensures) (k .if1 .taken) (c .before .before .write-block .ensures)
 
-same-length-2 : tie.Need-same-length-2
-same-length-2 c = search needs
-
 returns-2 : tie.Need-returns-2
 returns-2 c = search-stores-nothing _ _ _ _ (c .before .before .first-zeros .ensures) (c .if1 .left)
 
 pub set-first-zeros-spec : {M : Type 1} → statement M
-set-first-zeros-spec = tie.close (tie.spec first-zeros-requires write-block-requires same-length returns same-length-2 returns-2)
+set-first-zeros-spec = tie.close (tie.spec (λ c κs. search needs) write-block-requires (λ c. search needs) returns (λ c. search needs) returns-2)

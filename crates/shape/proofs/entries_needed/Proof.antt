@@ -10,9 +10,6 @@ use Rattle.shape.proofs.Ceils.{ceil-shifted}
 use Rattle.shape.proofs.entries_needed.Statement.{statement}
 use Rattle.shape.proofs.entries_needed.Tie as tie
 
-top-order-requires : tie.Need-top-order-requires
-top-order-requires c κs = search needs
-
 low : (c : tie.After-top-order) → c .top-order .result ≤ 20
 low c = let pre = c .before .pre in rw (c .top-order .ensures) (top-low _ (pre .2) refl (pre .0))
 
@@ -28,9 +25,6 @@ add-result c = omega (arith, c .size .ensures, pow-mono (low (c .before)))
 shr-result : tie.Need-shr-result
 shr-result c = omega (arith, low (c .before))
 
-tree-log-requires : tie.Need-tree-log-requires
-tree-log-requires c κs = search needs
-
 shl-result : tie.Need-shl-result
 shl-result c = omega (arith, log-low _ (c .before .before .before .pre .2) (c .tree-log .ensures))
 
@@ -44,4 +38,4 @@ returns c =
 
 pub entries-needed-spec : {M : Type 1} → statement M
 entries-needed-spec =
-    tie.close (tie.spec top-order-requires size-requires sub-result add-result shr-result tree-log-requires shl-result returns)
+    tie.close (tie.spec (λ c κs. search needs) size-requires sub-result add-result shr-result (λ c κs. search needs) shl-result returns)

@@ -17,11 +17,8 @@ returns-2 c = sym (no-tree _ (λ p. c .if2 .taken))
 some : (c : tie.Else2) → 0 < c .before .before .args .t
 some c = omega (arith, c .before .if1 .left)
 
-sub-result : tie.Need-sub-result
-sub-result c = search needs
-
 returns-3 : tie.Need-returns-3
 returns-3 c = tree-test _ (some c) (c .if2 .left)
 
 pub is-tree-spec : {M : Type 1} → statement M
-is-tree-spec = tie.close (tie.spec returns returns-2 sub-result returns-3)
+is-tree-spec = tie.close (tie.spec returns returns-2 (λ c. search needs) returns-3)

@@ -5,14 +5,8 @@ use borrow.Author.Tests.{ltb-true}
 use Rattle.shape.proofs.top_order.Statement.{statement}
 use Rattle.shape.proofs.top_order.Tie as tie
 
-tree-log-requires : tie.Need-tree-log-requires
-tree-log-requires c κs = search needs
-
 add-result : tie.Need-add-result
 add-result c = omega (arith, c .before .pre .0 .high, ltb-true)
 
-returns : tie.Need-returns
-returns c = search needs
-
 pub top-order-spec : {M : Type 1} → statement M
-top-order-spec = tie.close (tie.spec tree-log-requires add-result returns)
+top-order-spec = tie.close (tie.spec (λ c κs. search needs) add-result (λ c. search needs))

@@ -9,9 +9,6 @@ use Rattle.rules.proofs.Trees.{log-low, log-pow, tree-frames}
 use Rattle.shape.proofs.tree_first.Statement.{statement}
 use Rattle.shape.proofs.tree_first.Tie as tie
 
-tree-log-requires : tie.Need-tree-log-requires
-tree-log-requires c κs = search needs
-
 -- T's logarithm is one of the ten
 low : (c : tie.After-tree-log) → c .tree-log .result < 10
 low c = log-low _ (c .before .pre .1) (c .tree-log .ensures)
@@ -37,4 +34,4 @@ returns c =
 
 pub tree-first-spec : {M : Type 1} → statement M
 tree-first-spec =
-    tie.close (tie.spec tree-log-requires add-tree-huge shr-tree-huge tree-huge-requires returns)
+    tie.close (tie.spec (λ c κs. search needs) add-tree-huge shr-tree-huge tree-huge-requires returns)

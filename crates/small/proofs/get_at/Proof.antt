@@ -3,17 +3,26 @@ use Prim.Native.Nat.{_<_}
 use native.Mathlib.Omega.{arith}
 use lib.ListN.{length}
 use borrow.Author.Needs.{needs}
-use Rattle.rules.proofs.Below.{huge-fits, huge-shl, order-fits, order-shl, entry-lent, turn-asked}
+use Rattle.rules.proofs.Below.{entry-lent, turn-asked}
 use Rattle.small.proofs.Answers.{get-marked, get-few, get-done, get-damaged, get-held}
 use Rattle.small.proofs.get_at.Statement.{statement}
 use Rattle.small.proofs.get_at.Tie as tie
 
--- the block's entry is lent
-lent : (c : tie.After-frame-huge) → c .frame-huge .result < length (c .before .before .before .args .entries .now)
-lent c = let p = c .before .before .before .pre in entry-lent (p .0) (p .1) (p .2 .2) (c .frame-huge .ensures)
+-- the function's entry, from where the block's huge frame is known
+abbrev entry : tie.After-frame-huge → tie.Start
+entry x = x .before .before .before
 
-frame-huge-requires : tie.Need-frame-huge-requires
-frame-huge-requires c κs = search needs
+-- that place, from where the count is known to be enough
+abbrev huge : tie.Else2 → tie.After-frame-huge
+huge k = k .before .before .before .before
+
+-- and that one, from where the block was tried
+abbrev enough : tie.After-slice-known4 → tie.Else2
+enough t = t .before .before .before .before
+
+-- the block's entry is lent
+lent : (x : tie.After-frame-huge) → x .frame-huge .result < length (entry x .args .entries .now)
+lent x = let p = entry x .pre in entry-lent (p .0) (p .1) (p .2 .2) (x .frame-huge .ensures)
 
 mul-entry : tie.Need-mul-entry
 mul-entry c = omega (arith, lent c)
@@ -22,105 +31,55 @@ slice-read-entry : tie.Need-slice-read-entry
 slice-read-entry c = lent (c .before)
 
 returns : tie.Need-returns
-returns c =
-    let x = c .before .before in
-    let a = x .before .before .before .args in
-    get-marked (a .h) (a .rows .now) (a .entries .now) (a .frame) (a .order) (x .frame-huge .ensures) (c .if1 .taken)
-
-cast-size : tie.Need-cast-size
-cast-size c = let p = c .before .before .before .before .before .pre in omega (arith, order-fits (p .0) (p .1))
-
-shl-size : tie.Need-shl-size
-shl-size c = let p = c .before .before .before .before .before .pre in order-fits (p .0) (p .1)
+returns c = get-marked _ _ _ _ _ (c .before .before .frame-huge .ensures) (c .if1 .taken)
 
 returns-2 : tie.Need-returns-2
-returns-2 c =
-    let x = c .before .before .before in
-    let s = x .before .before .before in
-    let a = s .args in
-    let p = s .pre in
-    get-few (a .h) (a .rows .now) (a .entries .now) (a .frame) (a .order) (x .frame-huge .ensures) (c .before .if1 .left) (order-shl (p .0) (p .1)) (c .if2 .taken)
+returns-2 c = let k = c .before .before in get-few _ _ _ _ _ (k .before .before .frame-huge .ensures) (k .if1 .left) (c .before .size .ensures) (c .if2 .taken)
 
 toggle-requires : tie.Need-toggle-requires
-toggle-requires c κs = let p = c .before .before .before .before .before .before .before .pre in turn-asked (p .0) (p .1) (p .2 .2)
+toggle-requires c κs = let p = entry (huge (c .before)) .pre in turn-asked (p .0) (p .1) (p .2 .2)
 
-mul-entries : tie.Need-mul-entries
-mul-entries c = omega (arith, lent (c .before .before .before .before .before .before .before .before))
-
-slice-write-entries : tie.Need-slice-write-entries
-slice-write-entries c = lent (c .before .before .before .before .before .before .before .before)
-
-same-length : tie.Need-same-length
-same-length c = search needs
-
-same-length-2 : tie.Need-same-length-2
-same-length-2 c = search needs
+lower-requires : tie.Need-lower-requires
+lower-requires c κs = let k = enough (c .before .before) in (search needs, lent (huge k), omega (arith, k .before .size .ensures, k .if2 .left))
 
 returns-3 : tie.Need-returns-3
 returns-3 c =
-    let t = c .before .before .before in
-    let k = t .before .before in
-    let x = k .before .before .before in
-    let s = x .before .before .before in
-    let a = s .args in
-    let p = s .pre in
-    get-done (a .h) (a .rows .now) (a .entries .now) (a .frame) (a .order) (x .frame-huge .ensures) (k .before .if1 .left) (order-shl (p .0) (p .1)) (k .if2 .left)
-    (t .toggle .ensures) (c .if3 .taken)
-
-cast-if4 : tie.Need-cast-if4
-cast-if4 c = omega (arith, huge-fits (c .before .before .before .before .before .before .before .before .before .before .before .pre .0))
-
-shl-if4 : tie.Need-shl-if4
-shl-if4 c = huge-fits (c .before .before .before .before .before .before .before .before .before .before .before .pre .0)
-
-same-length-3 : tie.Need-same-length-3
-same-length-3 c = search needs
+    let i = c .before .before .before .before in
+    let k = enough (i .before) in
+    get-done _ _ _ _ _ (huge k .frame-huge .ensures) (k .before .before .if1 .left) (k .before .size .ensures) (k .if2 .left) (i .before .before .before .toggle .ensures) (i .if3 .taken)
+    (c .before .before .lower .ensures)
 
 returns-4 : tie.Need-returns-4
 returns-4 c =
-    let t = c .before .before .before .before in
-    let k = t .before .before in
-    let x = k .before .before .before in
-    let s = x .before .before .before in
-    let a = s .args in
-    let p = s .pre in
-    get-damaged (a .h) (a .rows .now) (a .entries .now) (a .frame) (a .order) (x .frame-huge .ensures) (k .before .if1 .left) (order-shl (p .0) (p .1)) (k .if2 .left) (huge-shl (p .0))
-    (t .toggle .ensures) (c .before .if3 .left) (c .if4 .taken)
-
-same-length-4 : tie.Need-same-length-4
-same-length-4 c = search needs
+    let i = c .before .before in
+    let k = enough (i .before) in
+    get-damaged _ _ _ _ _ (huge k .frame-huge .ensures) (k .before .before .if1 .left) (k .before .size .ensures) (k .if2 .left) (c .before .whole .ensures)
+    (i .before .before .before .toggle .ensures) (i .if3 .left) (c .if4 .taken)
 
 returns-5 : tie.Need-returns-5
 returns-5 c =
-    let t = c .before .before .before .before in
-    let k = t .before .before in
-    let x = k .before .before .before in
-    let s = x .before .before .before in
-    let a = s .args in
-    let p = s .pre in
-    get-held (a .h) (a .rows .now) (a .entries .now) (a .frame) (a .order) (x .frame-huge .ensures) (k .before .if1 .left) (order-shl (p .0) (p .1)) (k .if2 .left) (huge-shl (p .0))
-    (t .toggle .ensures) (c .before .if3 .left) (c .if4 .left)
+    let i = c .before .before in
+    let k = enough (i .before) in
+    get-held _ _ _ _ _ (huge k .frame-huge .ensures) (k .before .before .if1 .left) (k .before .size .ensures) (k .if2 .left) (c .before .whole .ensures)
+    (i .before .before .before .toggle .ensures) (i .if3 .left) (c .if4 .left)
 
 pub get-at-spec : {M : Type 1} → statement M
 get-at-spec =
     tie.close
     (tie.spec
-    frame-huge-requires
+    (λ c κs. search needs)
     mul-entry
     slice-read-entry
     returns
-    cast-size
-    shl-size
+    (λ c κs. search needs)
     returns-2
     toggle-requires
-    mul-entries
-    slice-write-entries
-    same-length
-    same-length-2
+    lower-requires
+    (λ c. search needs)
+    (λ c. search needs)
     returns-3
-    cast-if4
-    shl-if4
-    same-length-3
+    (λ c κs. search needs)
+    (λ c. search needs)
     returns-4
-    same-length-4
+    (λ c. search needs)
     returns-5)

@@ -4,95 +4,82 @@ use Prim.Native.Nat.{ℕ, _*_, _/_, _^_, _<_}
 use native.Mathlib.Omega.{arith}
 use lib.ListN.{length}
 use borrow.Author.Needs.{needs}
-use Rattle.rules.proofs.Below.{order-fits, order-shl, frame-low, first-low, entry-lent, turn-asked, whole-asked, whole-set}
+use Rattle.rules.proofs.Below.{frame-low, first-low, entry-lent, turn-asked, whole-asked, whole-set}
 use Rattle.small.proofs.Answers.{put-opened, put-torn}
 use Rattle.small.proofs.put_marked.Statement.{statement}
 use Rattle.small.proofs.put_marked.Tie as tie
 
+-- the function's entry, from where the block's huge frame is known
+abbrev entry : tie.After-frame-huge → tie.Start
+entry x = x .before .before .before
+
+-- that place, from where its first frame is known
+abbrev huge : tie.After-huge-frame → tie.After-frame-huge
+huge g = g .before .before
+
+-- and that one, from where the huge frame was tried
+abbrev first : tie.After-slice-known3 → tie.After-huge-frame
+first t = t .before .before .before
+
 -- the block's entry is lent
-lent : (c : tie.After-frame-huge) → c .frame-huge .result < length (c .before .before .before .args .entries .now)
-lent c = let p = c .before .before .before .pre in entry-lent (p .0) (p .1) (p .2 .2) (c .frame-huge .ensures)
+lent : (x : tie.After-frame-huge) → x .frame-huge .result < length (entry x .args .entries .now)
+lent x = let p = entry x .pre in entry-lent (p .0) (p .1) (p .2 .2) (x .frame-huge .ensures)
 
 -- the first frame of the block's huge frame
-first : (c : tie.After-frame-huge) → let a = c .before .before .before .args in c .frame-huge .result * 2 ^ a .h ≡ a .frame / 2 ^ a .h * 2 ^ a .h
-first c = ap (λ (x : ℕ). x * 2 ^ c .before .before .before .args .h) (c .frame-huge .ensures)
-
-frame-huge-requires : tie.Need-frame-huge-requires
-frame-huge-requires c κs = search needs
+first-is : (x : tie.After-frame-huge) → let a = entry x .args in x .frame-huge .result * 2 ^ a .h ≡ a .frame / 2 ^ a .h * 2 ^ a .h
+first-is x = ap (λ (y : ℕ). y * 2 ^ entry x .args .h) (x .frame-huge .ensures)
 
 huge-frame-requires : tie.Need-huge-frame-requires
 huge-frame-requires c κs =
-    let p = c .before .before .before .before .pre in
-    (p .0, omega (arith, frame-low (p .0) (p .1) (p .2 .2), first-low (p .0) (p .1) (p .2 .2) (first (c .before))))
+    let p = entry (c .before) .pre in
+    (p .0, omega (arith, frame-low (p .0) (p .1) (p .2 .2), first-low (p .0) (p .1) (p .2 .2) (first-is (c .before))))
 
 toggle-requires : tie.Need-toggle-requires
-toggle-requires c κs =
-    let p = c .before .before .before .before .before .pre in
-    whole-asked (p .0) (p .1) (p .2 .2) (c .huge-frame .ensures ∙ first (c .before .before))
+toggle-requires c κs = let p = entry (huge c) .pre in whole-asked (p .0) (p .1) (p .2 .2) (c .huge-frame .ensures ∙ first-is (huge c))
 
 toggle-requires-2 : tie.Need-toggle-requires-2
 toggle-requires-2 c κs =
-    let t = c .before .before .before .before in
-    let p = t .before .before .before .before .before .before .pre in
-    rw (t .toggle .kept .1 .0) (turn-asked (p .0) (p .1) (p .2 .2))
+    let t = c .before .before in
+    let p = entry (huge (first t)) .pre in
+    rw (t .before .before .toggle .kept .1 .0) (turn-asked (p .0) (p .1) (p .2 .2))
 
-cast-entries : tie.Need-cast-entries
-cast-entries c = let p = c .before .before .before .before .before .before .before .before .before .before .before .before .before .pre in omega (arith, order-fits (p .0) (p .1))
-
-shl-entries : tie.Need-shl-entries
-shl-entries c = let p = c .before .before .before .before .before .before .before .before .before .before .before .before .before .pre in order-fits (p .0) (p .1)
+-- the place where the huge frame was tried, from where the block was cleared
+abbrev tried : tie.After-size → tie.After-slice-known3
+tried c = c .before .before .before .before .before .before
 
 mul-entries : tie.Need-mul-entries
-mul-entries c = omega (arith, lent (c .before .before .before .before .before .before .before .before .before .before))
+mul-entries c = omega (arith, lent (huge (first (tried c))))
 
 slice-write-entries : tie.Need-slice-write-entries
-slice-write-entries c = lent (c .before .before .before .before .before .before .before .before .before .before)
-
-same-length : tie.Need-same-length
-same-length c = search needs
-
-same-length-2 : tie.Need-same-length-2
-same-length-2 c = search needs
+slice-write-entries c = lent (huge (first (tried c)))
 
 returns : tie.Need-returns
 returns c =
-    let t′ = c .before .before in
-    let i = t′ .before .before in
-    let t = i .before .before .before in
-    let g = t .before in
-    let x = g .before .before in
-    let s = x .before .before .before in
-    let a = s .args in
-    let p = s .pre in
-    let g-is = g .huge-frame .ensures ∙ first x in
-    put-opened (a .h) (a .rows .now) (a .entries .now) (a .frame) (a .order) (x .frame-huge .ensures) g-is (t .toggle .ensures) (i .if1 .taken)
-    (whole-set (p .0) (p .1) (p .2 .2) g-is (a .rows .now) refl) (order-shl (p .0) (p .1)) (t′ .toggle2 .ensures)
-
-same-length-3 : tie.Need-same-length-3
-same-length-3 c = search needs
+    let t = tried c in
+    let g = first t in
+    let s = entry (huge g) in
+    let g-is = g .huge-frame .ensures ∙ first-is (huge g) in
+    put-opened _ _ _ _ _ (huge g .frame-huge .ensures) g-is (t .before .before .toggle .ensures) (c .before .before .before .before .before .if1 .taken)
+    (whole-set (s .pre .0) (s .pre .1) (s .pre .2 .2) g-is (s .args .rows .now) refl) (c .size .ensures) (c .before .before .before .toggle2 .ensures)
 
 returns-2 : tie.Need-returns-2
 returns-2 c =
-    let t = c .before .before .before in
-    let g = t .before in
-    let x = g .before .before in
-    let a = x .before .before .before .args in
-    put-torn (a .h) (a .rows .now) (a .entries .now) (a .frame) (a .order) (x .frame-huge .ensures) (g .huge-frame .ensures ∙ first x) (t .toggle .ensures) (c .if1 .left)
+    let g = first (c .before) in
+    put-torn _ _ _ _ _ (huge g .frame-huge .ensures) (g .huge-frame .ensures ∙ first-is (huge g)) (c .before .before .before .toggle .ensures) (c .if1 .left)
 
 pub put-marked-spec : {M : Type 1} → statement M
 put-marked-spec =
     tie.close
     (tie.spec
-    frame-huge-requires
+    (λ c κs. search needs)
     huge-frame-requires
     toggle-requires
     toggle-requires-2
-    cast-entries
-    shl-entries
+    (λ c κs. search needs)
     mul-entries
     slice-write-entries
-    same-length
-    same-length-2
+    (λ c. search needs)
+    (λ c. search needs)
     returns
-    same-length-3
+    (λ c. search needs)
     returns-2)

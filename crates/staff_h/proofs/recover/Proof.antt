@@ -3,28 +3,16 @@ use mathlib.Core.Path.{sym, _∙_}
 use borrow.Author.Needs.{needs}
 use Rattle.base.proofs.Codes.{refuses, does-it}
 use Rattle.rules.proofs.Lent.{sized}
-use Rattle.rules.specs.Recover.{recovered}
 use Rattle.rules.specs.Recover as spec
 use Rattle.staff_h.proofs.recover.Statement.{statement}
 use Rattle.staff_h.proofs.recover.Tie as tie
 
-sizes-requires : tie.Need-sizes-requires
-sizes-requires c κs = search needs
-
 returns : tie.Need-returns
 unfolding spec.recover
-returns c = refuses _ _ (λ r. recovered r 0 0) (c .before .sizes .ensures) (c .if1 .taken)
+returns c = refuses _ _ (λ r. spec.recovered r 0 0) (c .before .sizes .ensures) (c .if1 .taken)
 
 all-requires : tie.Need-all-requires
-all-requires c κs =
-    let k = c .before .before in
-    (k .before .before .before .before .pre, sized _ _ _ _ _ (sym (k .before .sizes .ensures) ∙ k .if1 .left))
-
-same-length : tie.Need-same-length
-same-length c = search needs
-
-same-length-2 : tie.Need-same-length-2
-same-length-2 c = search needs
+all-requires c κs = let k = c .before .before in (k .before .before .before .before .pre, sized _ _ _ _ (sym (k .before .sizes .ensures) ∙ k .if1 .left))
 
 returns-2 : tie.Need-returns-2
 unfolding spec.recover
@@ -35,4 +23,4 @@ returns-2 c =
 
 pub recover-spec : {M : Type 1} → statement M
 recover-spec =
-    tie.close (tie.spec sizes-requires returns all-requires same-length same-length-2 returns-2)
+    tie.close (tie.spec (λ c κs. search needs) returns all-requires (λ c. search needs) (λ c. search needs) returns-2)

@@ -5,28 +5,21 @@ use lib.ListN.{length, replicate}
 use Rattle.base.specs.Code.{out}
 use Rattle.base.proofs.Codes.{refused, answered}
 use Rattle.rules.proofs.Lent.{framed}
-use Rattle.rules.specs.Room.{orders}
 use Rattle.rules.specs.Room as spec
 use Rattle.staff_h.proofs.room.Statement.{statement}
 use Rattle.staff_h.proofs.room.Tie as tie
-
-frame-requires : tie.Need-frame-requires
-frame-requires c κs = search needs
 
 returns : tie.Need-returns
 unfolding spec.room
 returns c =
     let s = c .before .before .before .before .before in
-    rw (s .pre .1) (refused _ (λ r. out r (replicate (orders (s .args .h)) 0)) (c .before .frame .ensures) (c .if1 .taken))
+    rw (s .pre .1) (refused _ (λ r. out r (replicate (spec.orders (s .args .h)) 0)) (c .before .frame .ensures) (c .if1 .taken))
 
 counts-requires : tie.Need-counts-requires
 counts-requires c κs =
     let k = c .before in
     let s = k .before .before .before .before .before in
-    (s .pre .0, (s .args .n, length (s .args .rows .now), framed _ _ _ _ _ _ (sym (k .before .frame .ensures) ∙ k .if1 .left)), s .pre .1)
-
-same-length : tie.Need-same-length
-same-length c = search needs
+    (s .pre .0, (s .args .n, length (s .args .rows .now), framed _ _ _ _ _ (sym (k .before .frame .ensures) ∙ k .if1 .left)), s .pre .1)
 
 returns-2 : tie.Need-returns-2
 unfolding spec.room
@@ -36,4 +29,4 @@ returns-2 c =
     answered _ _ (sym (k .before .frame .ensures) ∙ k .if1 .left) (ap (out 0) (f .counts .ensures))
 
 pub room-spec : {M : Type 1} → statement M
-room-spec = tie.close (tie.spec frame-requires returns counts-requires same-length returns-2)
+room-spec = tie.close (tie.spec (λ c κs. search needs) returns counts-requires (λ c. search needs) returns-2)

@@ -7,6 +7,7 @@ use native.Mathlib.Omega.{arith}
 use borrow.Author.Needs.{needs}
 use lib.ListN.{length}
 use Rattle.base.proofs.Codes.{refused, answered}
+use Rattle.rules.specs.State.{lengthsOf, mem}
 use Rattle.rules.specs.Refusals.{Framed}
 use Rattle.rules.proofs.Lent.{framed, frame-tree}
 use Rattle.rules.specs.Room as spec
@@ -15,26 +16,12 @@ use Rattle.staff_h.proofs.tree_run.Tie as tie
 
 -- past the refusals
 within : (e : tie.Else1)
-    → let s = e .before .before .before .before .args in Framed (s .h) (s .n) (s .t) (length (s .rows .now)) (length (s .entries .now)) (s .frame)
-within e = framed _ _ _ _ _ _ (sym (e .before .frame .ensures) ∙ e .if1 .left)
-
-frame-requires : tie.Need-frame-requires
-frame-requires c κs = search needs
-
-sub-result : tie.Need-sub-result
-sub-result c = search needs
-
-part-result-start : tie.Need-part-result-start
-part-result-start c = search needs
-
-part-result-end : tie.Need-part-result-end
-part-result-end c = search needs
+    → let s = e .before .before .before .before .args in Framed (s .h) (s .n) (s .t) (lengthsOf (mem (s .rows .now) (s .entries .now))) (s .frame)
+within e = framed _ _ _ _ _ (sym (e .before .frame .ensures) ∙ e .if1 .left)
 
 returns : tie.Need-returns
 unfolding spec.treeRun
-returns c =
-    let k = c .before in
-    refused _ (λ _. []) (k .before .frame .ensures) (k .if1 .taken)
+returns c = let k = c .before in refused _ (λ _. []) (k .before .frame .ensures) (k .if1 .taken)
 
 tree-first-requires : tie.Need-tree-first-requires
 tree-first-requires c κs = (c .before .before .before .before .pre, within c .sized .tree)
@@ -48,12 +35,6 @@ add-b c = omega (arith, lent c)
 
 mul-result : tie.Need-mul-result
 mul-result c = omega (arith, lent c)
-
-sub-result-2 : tie.Need-sub-result-2
-sub-result-2 c = search needs
-
-part-result-start-2 : tie.Need-part-result-start-2
-part-result-start-2 c = search needs
 
 part-result-end-2 : tie.Need-part-result-end-2
 part-result-end-2 c = lent c
@@ -70,15 +51,15 @@ pub tree-run-spec : {M : Type 1} → statement M
 tree-run-spec =
     tie.close
     (tie.spec
-    frame-requires
-    sub-result
-    part-result-start
-    part-result-end
+    (λ c κs. search needs)
+    (λ c. search needs)
+    (λ c. search needs)
+    (λ c. search needs)
     returns
     tree-first-requires
     add-b
     mul-result
-    sub-result-2
-    part-result-start-2
+    (λ c. search needs)
+    (λ c. search needs)
     part-result-end-2
     returns-2)

@@ -12,29 +12,11 @@ use Rattle.starts.proofs.Rows.{begins-low}
 use Rattle.starts.proofs.free_all.Statement.{statement}
 use Rattle.starts.proofs.free_all.Tie as tie
 
-write-rows-requires : tie.Need-write-rows-requires
-write-rows-requires c κs = search needs
-
-whole-requires : tie.Need-whole-requires
-whole-requires c κs = search needs
-
-write-entries-requires : tie.Need-write-entries-requires
-write-entries-requires c κs = search needs
-
-frame-huge-requires : tie.Need-frame-huge-requires
-frame-huge-requires c κs = search needs
-
 abbrev start : tie.After-frame-huge → tie.Start
 start p = p .before .before .before .before .before .before .before .before .before .before .before .before
 
 huge-frame-requires : tie.Need-huge-frame-requires
 huge-frame-requires c κs = (start c .pre .0, omega (arith, begins-low _ _ (c .frame-huge .ensures)))
-
-same-length : tie.Need-same-length
-same-length c = search needs
-
-same-length-2 : tie.Need-same-length-2
-same-length-2 c = search needs
 
 returns : tie.Need-returns
 unfolding spec.allFree
@@ -51,9 +33,7 @@ returns c =
     )
 
 sub-entries : tie.Need-sub-entries
-sub-entries c =
-    let q = c .before in
-    rw (q .huge-frame .ensures) (begins-low _ _ (q .before .frame-huge .ensures))
+sub-entries c = let q = c .before in rw (q .huge-frame .ensures) (begins-low _ _ (q .before .frame-huge .ensures))
 
 cast-entries : tie.Need-cast-entries
 cast-entries c =
@@ -70,12 +50,6 @@ mul-entries c = omega (arith, inside c, start (c .before .before) .pre .1 .entri
 
 slice-write-entries : tie.Need-slice-write-entries
 slice-write-entries c = omega (arith, inside c, start (c .before .before) .pre .1 .entries)
-
-same-length-3 : tie.Need-same-length-3
-same-length-3 c = search needs
-
-same-length-4 : tie.Need-same-length-4
-same-length-4 c = search needs
 
 returns-2 : tie.Need-returns-2
 unfolding spec.allFree
@@ -96,18 +70,18 @@ pub free-all-spec : {M : Type 1} → statement M
 free-all-spec =
     tie.close
     (tie.spec
-    write-rows-requires
-    whole-requires
-    write-entries-requires
-    frame-huge-requires
+    (λ c κs. search needs)
+    (λ c κs. search needs)
+    (λ c κs. search needs)
+    (λ c κs. search needs)
     huge-frame-requires
-    same-length
-    same-length-2
+    (λ c. search needs)
+    (λ c. search needs)
     returns
     sub-entries
     cast-entries
     mul-entries
     slice-write-entries
-    same-length-3
-    same-length-4
+    (λ c. search needs)
+    (λ c. search needs)
     returns-2)

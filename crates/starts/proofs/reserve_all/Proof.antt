@@ -8,13 +8,8 @@ use Rattle.starts.proofs.Rows.{begins-low}
 use Rattle.starts.proofs.reserve_all.Statement.{statement}
 use Rattle.starts.proofs.reserve_all.Tie as tie
 
-frame-huge-requires : tie.Need-frame-huge-requires
-frame-huge-requires c κs = search needs
-
 huge-frame-requires : tie.Need-huge-frame-requires
-huge-frame-requires c κs =
-    let pre = c .before .before .before .before .pre in
-    (pre .0, omega (arith, begins-low _ _ (c .frame-huge .ensures)))
+huge-frame-requires c κs = let pre = c .before .before .before .before .pre in (pre .0, omega (arith, begins-low _ _ (c .frame-huge .ensures)))
 
 -- the rows are cleared up to where the whole huge frames below N end
 whole : (c : tie.After-huge-frame) → let s = c .before .before .before .before .before .args in c .huge-frame .result ≡ s .n / 2 ^ s .h * 2 ^ s .h
@@ -24,15 +19,6 @@ write-rows-requires : tie.Need-write-rows-requires
 write-rows-requires c κs =
     let pre = c .before .before .before .before .before .pre in
     (pre .0, pre .1 .most, rw (c .huge-frame .ensures) (begins-low _ _ (c .before .frame-huge .ensures)), pre .1 .rows)
-
-write-entries-requires : tie.Need-write-entries-requires
-write-entries-requires c κs = search needs
-
-same-length : tie.Need-same-length
-same-length c = search needs
-
-same-length-2 : tie.Need-same-length-2
-same-length-2 c = search needs
 
 returns : tie.Need-returns
 unfolding spec.allHeld
@@ -45,10 +31,10 @@ pub reserve-all-spec : {M : Type 1} → statement M
 reserve-all-spec =
     tie.close
     (tie.spec
-    frame-huge-requires
+    (λ c κs. search needs)
     huge-frame-requires
     write-rows-requires
-    write-entries-requires
-    same-length
-    same-length-2
+    (λ c κs. search needs)
+    (λ c. search needs)
+    (λ c. search needs)
     returns)

@@ -6,12 +6,6 @@ use Rattle.starts.proofs.Entries.{wholes-needed, wholes-written}
 use Rattle.starts.proofs.write_entries.Statement.{statement}
 use Rattle.starts.proofs.write_entries.Tie as tie
 
-entries-needed-requires : tie.Need-entries-needed-requires
-entries-needed-requires c κs = search needs
-
-frame-huge-requires : tie.Need-frame-huge-requires
-frame-huge-requires c κs = search needs
-
 -- the entries of whole huge frames are needed
 inside : (c : tie.After-frame-huge) → c .frame-huge .result ≤ c .before .entries-needed .result
 inside c = let k = c .before in rw (k .entries-needed .ensures) (wholes-needed (k .before .before .pre .1 .1) (c .frame-huge .ensures))
@@ -27,9 +21,6 @@ fill-requires-2 c κs =
     let w = c .before .before .before .before .before in
     omega (arith, inside w, w .before .entries-needed .ensures, w .before .before .before .pre .1 .1 .entries)
 
-same-length : tie.Need-same-length
-same-length c = search needs
-
 returns : tie.Need-returns
 returns c =
     let f = c .before .before .before .before .before .before in
@@ -42,10 +33,10 @@ pub write-entries-spec : {M : Type 1} → statement M
 write-entries-spec =
     tie.close
     (tie.spec
-    entries-needed-requires
-    frame-huge-requires
+    (λ c κs. search needs)
+    (λ c κs. search needs)
     fill-requires
     sub-fill
     fill-requires-2
-    same-length
+    (λ c. search needs)
     returns)

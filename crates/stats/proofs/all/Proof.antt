@@ -11,9 +11,6 @@ use Rattle.stats.proofs.Cases.{all-of-trees, all-of-one}
 use Rattle.stats.proofs.all.Statement.{statement}
 use Rattle.stats.proofs.all.Tie as tie
 
-entries-needed-requires : tie.Need-entries-needed-requires
-entries-needed-requires c κs = search needs
-
 -- the needed entries are lent, and few enough to be summed in 32 bits and counted in 16
 lent : (a : tie.After-entries-needed) → (a .entries-needed .result ≤ length (a .before .before .args .entries .now)) × (a .entries-needed .result < 65536)
 lent a = let pre = a .before .before .pre in rw (a .entries-needed .ensures) (pre .1 .1 .entries, entries-few (pre .1 .1) (pre .0))
@@ -21,22 +18,13 @@ lent a = let pre = a .before .before .pre in rw (a .entries-needed .ensures) (pr
 blocks-requires : tie.Need-blocks-requires
 blocks-requires c κs = (omega (arith, lent c), lent c .1, omega arith)
 
-whole-requires : tie.Need-whole-requires
-whole-requires c κs = search needs
-
 count-of-requires : tie.Need-count-of-requires
 count-of-requires c κs = lent (c .before .before)
-
-top-order-requires : tie.Need-top-order-requires
-top-order-requires c κs = search needs
 
 size-requires : tie.Need-size-requires
 size-requires c κs =
     let pre = c .before .before .before .before .before .before .before .pre in
     omega (arith, c .top-order .ensures, top-low _ (pre .1 .1 .tree) refl (pre .0))
-
-tree-log-requires : tie.Need-tree-log-requires
-tree-log-requires c κs = search needs
 
 huge-tree-requires : tie.Need-huge-tree-requires
 huge-tree-requires c κs = log-low _ (c .before .before .before .before .before .before .before .before .before .pre .1 .1 .tree) (c .tree-log .ensures)
@@ -70,13 +58,13 @@ pub all-spec : {M : Type 1} → statement M
 all-spec =
     tie.close
     (tie.spec
-    entries-needed-requires
+    (λ c κs. search needs)
     blocks-requires
-    whole-requires
+    (λ c κs. search needs)
     count-of-requires
-    top-order-requires
+    (λ c κs. search needs)
     size-requires
-    tree-log-requires
+    (λ c κs. search needs)
     huge-tree-requires
     free-trees-by-size-requires
     returns

@@ -19,14 +19,8 @@ returns c = by-frame _ _ _ _ _ (c .before .if1 .taken) (c .at-frame .ensures)
 free-of-requires : tie.Need-free-of-requires
 free-of-requires c κs = let pre = c .before .before .before .before .pre in (pre .0, frame-entry (pre .0) (pre .1 .1))
 
-shr-t9 : tie.Need-shr-t9
-shr-t9 c = omega (arith, c .before .before .before .before .before .pre .0 .high)
-
 returns-2 : tie.Need-returns-2
 returns-2 c = by-huge (c .before .before .before .before .before .args .h) _ _ _ _ (c .before .before .if1 .left) (c .before .if2 .taken) (c .free-of .ensures)
-
-top-order-requires : tie.Need-top-order-requires
-top-order-requires c κs = search needs
 
 at-tree-by-size-requires : tie.Need-at-tree-by-size-requires
 at-tree-by-size-requires c κs =
@@ -40,10 +34,8 @@ returns-3 c =
     by-tree _ _ _ _ _ (k .before .before .if1 .left) (k .before .if2 .left) (k .top-order .ensures) (c .before .if3 .taken) (c .at-tree-by-size .ensures rows)
 
 returns-4 : tie.Need-returns-4
-returns-4 c =
-    let k = c .before in
-    by-none _ _ _ _ _ (k .before .before .if1 .left) (k .before .if2 .left) (k .top-order .ensures) (c .if3 .left)
+returns-4 c = let k = c .before in by-none _ _ _ _ _ (k .before .before .if1 .left) (k .before .if2 .left) (k .top-order .ensures) (c .if3 .left)
 
 pub at-spec : {M : Type 1} → statement M
 at-spec =
-    tie.close (tie.spec at-frame-requires returns free-of-requires shr-t9 returns-2 top-order-requires at-tree-by-size-requires returns-3 returns-4)
+    tie.close (tie.spec at-frame-requires returns free-of-requires (λ c. search needs) returns-2 (λ c κs. search needs) at-tree-by-size-requires returns-3 returns-4)

@@ -6,12 +6,6 @@ use Rattle.stats.proofs.Cases.{held-none}
 use Rattle.stats.proofs.at_frame.Statement.{statement}
 use Rattle.stats.proofs.at_frame.Tie as tie
 
-free-of-requires : tie.Need-free-of-requires
-free-of-requires c κs = search needs
-
-is-clear-requires : tie.Need-is-clear-requires
-is-clear-requires c κs = search needs
-
 returns : tie.Need-returns
 returns c =
     let k = c .before .before in
@@ -28,4 +22,4 @@ returns-2 c =
     (c .if1 .came)
 
 pub at-frame-spec : {M : Type 1} → statement M
-at-frame-spec = tie.close (tie.spec free-of-requires is-clear-requires returns returns-2)
+at-frame-spec = tie.close (tie.spec (λ c κs. search needs) (λ c κs. search needs) returns returns-2)

@@ -8,26 +8,16 @@ use Rattle.stats.proofs.Cases.{tree-counted}
 use Rattle.stats.proofs.at_tree.Statement.{statement}
 use Rattle.stats.proofs.at_tree.Tie as tie
 
-tree-first-requires : tie.Need-tree-first-requires
-tree-first-requires c κs = search needs
-
 blocks-requires : tie.Need-blocks-requires
-blocks-requires c κs =
-    let pre = c .before .before .pre in
-    (rw (c .tree-first .ensures) (pre .2), omega (arith, tree-high _ (pre .1)), omega arith)
+blocks-requires c κs = let pre = c .before .before .pre in (rw (c .tree-first .ensures) (pre .2), omega (arith, tree-high _ (pre .1)), omega arith)
 
 blocks-requires-2 : tie.Need-blocks-requires-2
 blocks-requires-2 c κs =
     let pre = c .before .before .before .pre in
     (rw (c .before .tree-first .ensures) (pre .2), omega (arith, tree-high _ (pre .1)), omega (arith, pre .0 .high))
 
-top-order-requires : tie.Need-top-order-requires
-top-order-requires c κs = search needs
-
 shr-t9 : tie.Need-shr-t9
-shr-t9 c =
-    let pre = c .before .before .before .before .before .pre in
-    omega (arith, c .top-order .ensures, top-low _ (pre .1) refl (pre .0))
+shr-t9 c = let pre = c .before .before .before .before .before .pre in omega (arith, c .top-order .ensures, top-low _ (pre .1) refl (pre .0))
 
 returns : tie.Need-returns
 returns c =
@@ -39,9 +29,9 @@ pub at-tree-spec : {M : Type 1} → statement M
 at-tree-spec =
     tie.close
     (tie.spec
-    tree-first-requires
+    (λ c κs. search needs)
     blocks-requires
     blocks-requires-2
-    top-order-requires
+    (λ c κs. search needs)
     shr-t9
     returns)

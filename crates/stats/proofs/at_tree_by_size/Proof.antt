@@ -9,11 +9,5 @@ at-tree-requires c κs = rw (c .if1 .taken) at (c .before .before .pre)
 returns : tie.Need-returns
 returns c = rw (c .before .if1 .taken) (c .at-tree .ensures)
 
-at-tree-requires-2 : tie.Need-at-tree-requires-2
-at-tree-requires-2 c κs = search needs
-
-returns-2 : tie.Need-returns-2
-returns-2 c = search needs
-
 pub at-tree-by-size-spec : {M : Type 1} → statement M
-at-tree-by-size-spec = tie.close (tie.spec at-tree-requires returns at-tree-requires-2 returns-2)
+at-tree-by-size-spec = tie.close (tie.spec at-tree-requires returns (λ c κs. search needs) (λ c. search needs))

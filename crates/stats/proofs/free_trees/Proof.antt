@@ -32,15 +32,6 @@ mul-blocks c = omega (arith, ends c, c .before .before .before .pre .0)
 blocks-requires : tie.Need-blocks-requires Inv-loop μ-loop
 blocks-requires c κs = (omega (arith, ends c, c .before .before .before .pre .0), omega (arith, c .before .before .before .pre .1), omega arith)
 
-add-sum : tie.Need-add-sum Inv-loop μ-loop
-add-sum c = omega (arith, c .before .before .before .loop .inv .low)
-
-add-y : tie.Need-add-y Inv-loop μ-loop
-add-y c = search needs
-
-loop-less : tie.Need-loop-less Inv-loop μ-loop
-loop-less c = search needs
-
 loop-again : tie.Need-loop-again Inv-loop μ-loop
 loop-again c =
     let k = c .before .before in
@@ -55,4 +46,4 @@ returns : tie.Need-returns Inv-loop μ-loop
 returns c = count-end (c .before .loop .inv) (c .loop-test .left)
 
 pub free-trees-spec : {M : Type 1} → statement M
-free-trees-spec = tie.close (tie.spec Inv-loop μ-loop loop-holds mul-blocks blocks-requires add-sum add-y loop-less loop-again returns)
+free-trees-spec = tie.close (tie.spec Inv-loop μ-loop loop-holds mul-blocks blocks-requires (λ c. search needs) (λ c. search needs) (λ c. search needs) loop-again returns)

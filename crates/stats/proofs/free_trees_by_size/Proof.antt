@@ -15,12 +15,6 @@ free-trees-requires-2 c κs = rw (c .if2 .taken) at (c .before .before .before .
 returns-2 : tie.Need-returns-2
 returns-2 c = rw (c .before .if2 .taken) (c .free-trees2 .ensures)
 
-free-trees-requires-3 : tie.Need-free-trees-requires-3
-free-trees-requires-3 c κs = search needs
-
-returns-3 : tie.Need-returns-3
-returns-3 c = search needs
-
 pub free-trees-by-size-spec : {M : Type 1} → statement M
 free-trees-by-size-spec =
     tie.close
@@ -29,5 +23,5 @@ free-trees-by-size-spec =
     returns
     free-trees-requires-2
     returns-2
-    free-trees-requires-3
-    returns-3)
+    (λ c κs. search needs)
+    (λ c. search needs))

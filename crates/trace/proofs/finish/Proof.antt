@@ -1,44 +1,44 @@
 -- `trace::finish` is safe and ends. Assumes nothing.
-use mathlib.Core.Path.{sym}
-use native.Mathlib.Omega.{arith}
-use lib.Seq.{length-take-le}
 use borrow.Author.Needs.{needs}
+use mathlib.Core.Path.{sym}
+use Prim.Native.Nat.{_≤_}
+use native.Mathlib.Omega.{arith}
+use lib.ListN.{length}
+use lib.Seq.{length-take-le}
+use Rattle.dialogue.proofs.Cases.{print-ends}
 use Rattle.trace.proofs.finish.Statement.{statement}
 use Rattle.trace.proofs.finish.Tie as tie
 
-slice-aggregate-answer : tie.Need-slice-aggregate-answer
-slice-aggregate-answer c = sym (length-take-le _ _ (omega arith))
+-- the answer ends in the text
+ends : (c : tie.After-print) → c .print .result ≤ length (c .print .last .0)
+ends c =
+    let made = c .before .before .before .before .before .before in
+    let start = made .before .before .before .before .before .before .before in
+    omega (arith, print-ends (start .args .text .now) 0 (made .finish .result) (c .print .ensures), c .print .kept .0, start .pre .1)
 
-answer-requires : tie.Need-answer-requires
-answer-requires c κs = search needs
+slice-reshare-prefix-write-all : tie.Need-slice-reshare-prefix-write-all
+slice-reshare-prefix-write-all c = ends (c .before .before)
 
-write-out-requires : tie.Need-write-out-requires
-write-out-requires c κs = search needs
-
-same-length : tie.Need-same-length
-same-length c = search needs
-
-same-length-2 : tie.Need-same-length-2
-same-length-2 c = search needs
-
-same-length-3 : tie.Need-same-length-3
-same-length-3 c = search needs
-
-returns : tie.Need-returns
-returns c = search needs
-
-returns-2 : tie.Need-returns-2
-returns-2 c = search needs
+slice-aggregate-write-all : tie.Need-slice-aggregate-write-all
+slice-aggregate-write-all c = sym (length-take-le _ _ (ends (c .before .before .before)))
 
 pub finish-spec : {M : Type 1} → statement M
 finish-spec =
     tie.close
     (tie.spec
-    slice-aggregate-answer
-    answer-requires
-    write-out-requires
-    same-length
-    same-length-2
-    same-length-3
-    returns
-    returns-2)
+    (λ c κs. search needs)
+    (λ c κs. search needs)
+    slice-reshare-prefix-write-all
+    slice-aggregate-write-all
+    (λ c κs. search needs)
+    (λ c. search needs)
+    (λ c κs. search needs)
+    (λ c κs. search needs)
+    (λ c. search needs)
+    (λ c. search needs)
+    (λ c. search needs)
+    (λ c. search needs)
+    (λ c. search needs)
+    (λ c. search needs)
+    (λ c. search needs)
+    (λ c. search needs))

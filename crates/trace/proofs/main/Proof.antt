@@ -1,98 +1,38 @@
--- `trace::main` is safe and ends: the number of parts that are left falls with each. Assumes nothing.
+-- `trace::main` is safe and ends: the number of parts that are left falls with each. What it holds is always a dialogue that some input leads to.
+-- Assumes nothing.
 use mathlib.Core.Path.{_≡_}
-use borrow.Author.Needs.{needs}
+use Prim.Native.Nat.{_≤_}
 use lib.ListN.{length}
-use Rattle.trace.specs.Desk.{Ready}
+use borrow.Author.Needs.{needs}
+use Rattle.dialogue.specs.Feeds.{held}
+use Rattle.trace.specs.Passes.{Reached}
+use Rattle.trace.proofs.Reaches.{reached-first, reached-on}
 use Rattle.trace.proofs.main.Statement.{statement}
 use Rattle.trace.proofs.main.Tie as tie
 
 abbrev Inv-loop : tie.InvT-loop
-Inv-loop rows₀ entries₀ line₀ input₀ text₀ desk₀ left₀ rows entries line input text desk left =
-    (length rows ≡ 4096) × (length entries ≡ 512) × (length line ≡ 65) × (length input ≡ 65536) × (length text ≡ 65536) × Ready 65536 desk
+Inv-loop rows₀ entries₀ line₀ input₀ text₀ state₀ left₀ rows entries line input text state left =
+    (length rows ≡ 4096) × (length entries ≡ 512) × (length line ≡ 65) × (length input ≡ 65536) × (length text ≡ 65536) × (state .kept ≤ 65)
+    × Reached (held state rows entries line)
 
 abbrev μ-loop : tie.MeasureT-loop
-μ-loop rows₀ entries₀ line₀ input₀ text₀ desk₀ left₀ rows entries line input text desk left = left
-
-large-buffer-requires : tie.Need-large-buffer-requires Inv-loop μ-loop
-large-buffer-requires c κs = search needs
-
-large-buffer-requires-2 : tie.Need-large-buffer-requires-2 Inv-loop μ-loop
-large-buffer-requires-2 c κs = search needs
+μ-loop rows₀ entries₀ line₀ input₀ text₀ state₀ left₀ rows entries line input text state left = left
 
 loop-holds : tie.Need-loop-holds Inv-loop μ-loop
-loop-holds c = search needs
-
-slice-aggregate-read : tie.Need-slice-aggregate-read Inv-loop μ-loop
-slice-aggregate-read c = search needs
-
-read-requires : tie.Need-read-requires Inv-loop μ-loop
-read-requires c κs = search needs
-
-slice-aggregate-count : tie.Need-slice-aggregate-count Inv-loop μ-loop
-slice-aggregate-count c = search needs
-
-count-requires : tie.Need-count-requires Inv-loop μ-loop
-count-requires c κs = search needs
-
-slice-aggregate-finish : tie.Need-slice-aggregate-finish Inv-loop μ-loop
-slice-aggregate-finish c = search needs
-
-slice-aggregate-finish-2 : tie.Need-slice-aggregate-finish-2 Inv-loop μ-loop
-slice-aggregate-finish-2 c = search needs
-
-slice-aggregate-finish-3 : tie.Need-slice-aggregate-finish-3 Inv-loop μ-loop
-slice-aggregate-finish-3 c = search needs
-
-slice-aggregate-finish-4 : tie.Need-slice-aggregate-finish-4 Inv-loop μ-loop
-slice-aggregate-finish-4 c = search needs
-
-finish-requires : tie.Need-finish-requires Inv-loop μ-loop
-finish-requires c κs = search needs
-
-returns : tie.Need-returns Inv-loop μ-loop
-returns c = search needs
-
-array-share-prefix-input : tie.Need-array-share-prefix-input Inv-loop μ-loop
-array-share-prefix-input c = search needs
-
-slice-aggregate-serve : tie.Need-slice-aggregate-serve Inv-loop μ-loop
-slice-aggregate-serve c = search needs
-
-slice-aggregate-serve-2 : tie.Need-slice-aggregate-serve-2 Inv-loop μ-loop
-slice-aggregate-serve-2 c = search needs
-
-slice-aggregate-serve-3 : tie.Need-slice-aggregate-serve-3 Inv-loop μ-loop
-slice-aggregate-serve-3 c = search needs
-
-slice-aggregate-serve-4 : tie.Need-slice-aggregate-serve-4 Inv-loop μ-loop
-slice-aggregate-serve-4 c = search needs
-
-slice-aggregate-serve-5 : tie.Need-slice-aggregate-serve-5 Inv-loop μ-loop
-slice-aggregate-serve-5 c = search needs
-
-serve-requires : tie.Need-serve-requires Inv-loop μ-loop
-serve-requires c κs = search needs
-
-slice-aggregate-write-out : tie.Need-slice-aggregate-write-out Inv-loop μ-loop
-slice-aggregate-write-out c = search needs
-
-write-out-requires : tie.Need-write-out-requires Inv-loop μ-loop
-write-out-requires c κs = search needs
-
-returns-2 : tie.Need-returns-2 Inv-loop μ-loop
-returns-2 c = search needs
-
-sub-left : tie.Need-sub-left Inv-loop μ-loop
-sub-left c = search needs
-
-loop-less : tie.Need-loop-less Inv-loop μ-loop
-loop-less c = search needs
+loop-holds c = (search needs, search needs, search needs, search needs, search needs, search needs, reached-first)
 
 loop-again : tie.Need-loop-again Inv-loop μ-loop
-loop-again c = search needs
-
-returns-3 : tie.Need-returns-3 Inv-loop μ-loop
-returns-3 c = search needs
+loop-again c =
+    let passed = c .before .before .before .before .before .before in
+    let at = passed .before .before .before .before .before .before .before .before .before .before .before .before .before .before in (
+      search needs,
+      search needs,
+      search needs,
+      search needs,
+      search needs,
+      passed .pass .ensures .kept,
+      reached-on _ _ _ (at .loop .inv .6) (passed .pass .ensures .leaves (c .before .if3 .left)),
+    )
 
 pub main-spec : {M : Type 1} → statement M
 main-spec =
@@ -100,30 +40,31 @@ main-spec =
     (tie.spec
     Inv-loop
     μ-loop
-    large-buffer-requires
-    large-buffer-requires-2
+    (λ c κs. search needs)
+    (λ c κs. search needs)
     loop-holds
-    slice-aggregate-read
-    read-requires
-    slice-aggregate-count
-    count-requires
-    slice-aggregate-finish
-    slice-aggregate-finish-2
-    slice-aggregate-finish-3
-    slice-aggregate-finish-4
-    finish-requires
-    returns
-    array-share-prefix-input
-    slice-aggregate-serve
-    slice-aggregate-serve-2
-    slice-aggregate-serve-3
-    slice-aggregate-serve-4
-    slice-aggregate-serve-5
-    serve-requires
-    slice-aggregate-write-out
-    write-out-requires
-    returns-2
-    sub-left
-    loop-less
+    (λ c. search needs)
+    (λ c κs. search needs)
+    (λ c κs. search needs)
+    (λ c. search needs)
+    (λ c. search needs)
+    (λ c κs. search needs)
+    (λ c. search needs)
+    (λ c. search needs)
+    (λ c. search needs)
+    (λ c. search needs)
+    (λ c κs. search needs)
+    (λ c. search needs)
+    (λ c. search needs)
+    (λ c. search needs)
+    (λ c. search needs)
+    (λ c. search needs)
+    (λ c. search needs)
+    (λ c. search needs)
+    (λ c κs. search needs)
+    (λ c κs. search needs)
+    (λ c. search needs)
+    (λ c. search needs)
+    (λ c. search needs)
     loop-again
-    returns-3)
+    (λ c. search needs))

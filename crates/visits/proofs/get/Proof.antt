@@ -2,22 +2,22 @@
 -- The measure is what is left of the tree. Assumes nothing.
 use mathlib.Core.Path.{_≡_, refl, sym, ap, ap₂, _∙_}
 use mathlib.Core.List.{List}
-use Prim.Native.Nat.{ℕ, _+_, _-_, _*_, _/_, _^_, _≤_, _<_}
+use Prim.Native.Nat.{ℕ, _+_, _-_, _/_, _≤_, _<_}
 use native.Mathlib.Omega.{arith}
-use lib.ListN.{length, length-set}
+use lib.ListN.{length}
 use borrow.Author.Needs.{needs}
 use Rattle.base.specs.Code.{out}
-use Rattle.base.specs.Size.{rowsOf}
+use Rattle.base.specs.Size.{rowsPer}
 use Rattle.base.proofs.Walks.{FirstAt, first-start, first-more, first-from}
 use Rattle.rules.specs.State.{mem}
 use Rattle.rules.specs.Get.{got, visit, stops, entryAt}
 use Rattle.rules.proofs.Numbers.{tree-high}
 use Rattle.rules.proofs.Lent.{present-rows, start-tree}
 use Rattle.rules.specs.declared.Visit.the-variants.{Damage}
-use Rattle.rules.proofs.Below.{block-asked}
+use Rattle.rules.proofs.Below.{turn-asked}
 use Rattle.rules.proofs.VisitSteps.{Free, visit-free}
-use Rattle.rules.proofs.GetSteps.{start-huge, start-low, entry-lent, entry-low, found-block, stopsAt, get-ended, get-none, get-taken}
-use Rattle.visits.proofs.Skips.{skipped}
+use Rattle.rules.proofs.GetSteps.{start-huge, start-low, entry-lent, entry-low, found-block, stopsAt, get-ended, get-none}
+use Rattle.visits.proofs.Skips.{skipped, get-turned}
 use Rattle.visits.proofs.get.Statement.{statement}
 use Rattle.visits.proofs.get.Tie as tie
 
@@ -28,22 +28,21 @@ Inv-loop h n t rows₀ entries₀ row order start j₀ rows entries j =
 abbrev μ-loop : tie.MeasureT-loop
 μ-loop h n t rows₀ entries₀ row order start j₀ rows entries j = t - j
 
-row-huge-requires : tie.Need-row-huge-requires Inv-loop μ-loop
-row-huge-requires c κs = search needs
-
 loop-holds : tie.Need-loop-holds Inv-loop μ-loop
 loop-holds c = (refl, refl, first-start _ _)
+
+-- ---- a turn of the loop, and the next visit that it finds
 
 -- the function's entry, from where its loop begins
 abbrev entry : tie.After-row-huge Inv-loop μ-loop → tie.Start Inv-loop μ-loop
 entry b = b .before .before .before
 
--- an order below the huge order is a shift of a 16 bit number
-order-low : (s : tie.Start Inv-loop μ-loop) → s .args .order < 16
-order-low s = omega (arith, s .pre .1, s .pre .0 .high)
+-- a turn, from where it looks for the next visit
+abbrev turn : tie.After-next-arg Inv-loop μ-loop → tie.At-loop Inv-loop μ-loop
+turn k = k .before .before
 
 -- the huge frame of the start row
-start-is : (b : tie.After-row-huge Inv-loop μ-loop) → b .row-huge .result ≡ entry b .args .row / rowsOf (entry b .args .h)
+start-is : (b : tie.After-row-huge Inv-loop μ-loop) → b .row-huge .result ≡ entry b .args .row / rowsPer (entry b .args .h)
 start-is b = let s = entry b in b .row-huge .ensures ∙ start-huge (s .pre .0) (s .pre .2)
 
 near : (b : tie.After-row-huge Inv-loop μ-loop) → b .row-huge .result < 1048576
@@ -53,11 +52,7 @@ next-requires : tie.Need-next-requires Inv-loop μ-loop
 next-requires c κs =
     let a = c .before .before in
     let s = entry (a .before) in
-    (s .pre .2 .sized .tree, near (a .before), rw (start-is (a .before), a .loop .inv .1) (start-tree (s .pre .0) (s .pre .2)), order-low s, a .loop .inv .2 .0)
-
--- the turn of the loop that looks for the next visit
-abbrev turn : tie.After-next-arg Inv-loop μ-loop → tie.At-loop Inv-loop μ-loop
-turn k = k .before .before
+    (s .pre .2 .sized .tree, near (a .before), rw (start-is (a .before), a .loop .inv .1) (start-tree (s .pre .0) (s .pre .2)), omega (arith, s .pre .1, s .pre .0 .high), a .loop .inv .2 .0)
 
 -- that visit is not before this turn's
 forward : (k : tie.After-next Inv-loop μ-loop) → turn (k .before) .loop .j ≤ k .next .result
@@ -68,22 +63,21 @@ at-next : (k : tie.After-next Inv-loop μ-loop) → let s = entry (turn (k .befo
     FirstAt (stopsAt (s .h) (s .n) (s .t) (mem (s .rows .now) (s .entries .now)) (s .row) (s .order)) (s .t) (k .next .result)
 at-next k = let a = turn (k .before) in skipped _ _ _ _ _ _ _ _ _ (a .loop .inv .2) (rw (a .loop .inv .1, start-is (a .before)) at (k .next .ensures))
 
--- it is one of a tree's
-next-low : (c : tie.Then1 Inv-loop μ-loop) → c .before .next .result < 512
-next-low c = let s = entry (turn (c .before .before) .before) in omega (arith, c .if1 .taken, tree-high (s .args .t) (s .pre .2 .sized .tree))
+-- the turn, from where that visit is one of the tree's
+abbrev visiting : tie.Then1 Inv-loop μ-loop → tie.At-loop Inv-loop μ-loop
+visiting d = turn (d .before .before)
 
 entry-at-requires : tie.Need-entry-at-requires Inv-loop μ-loop
 entry-at-requires c κs =
-    let b = turn (c .before .before) .before in
-    (entry b .pre .2 .sized .tree, near b, omega (arith, next-low c))
+    let b = visiting c .before in
+    let tree = entry b .pre .2 .sized .tree in
+    (tree, near b, omega (arith, c .if1 .taken, tree-high (entry b .args .t) tree))
 
--- the turn of the loop that visits an entry
-abbrev visiting : tie.Then1 Inv-loop μ-loop → tie.At-loop Inv-loop μ-loop
-visiting c = turn (c .before .before)
+-- ---- the visit
 
 -- entry x is the one that is visited after j others
 x-is : (e : tie.After-entry-at Inv-loop μ-loop) → let s = entry (visiting (e .before) .before) .args in
-    e .entry-at .result ≡ entryAt (s .t) (s .row / rowsOf (s .h)) (e .before .before .next .result)
+    e .entry-at .result ≡ entryAt (s .t) (s .row / rowsPer (s .h)) (e .before .before .next .result)
 x-is e = rw (start-is (visiting (e .before) .before)) at (e .entry-at .ensures)
 
 -- it is lent
@@ -93,139 +87,100 @@ entry-read e =
     let s = entry (a .before) in
     rw (a .loop .inv .1, x-is e) (entry-lent (s .pre .0) (s .pre .2) (e .before .before .next .result))
 
--- and far below a word's end
-entry-small : (e : tie.After-entry-at Inv-loop μ-loop) → e .entry-at .result < 1048576
-entry-small e = let s = entry (visiting (e .before) .before) in rw (x-is e) (entry-low (s .pre .0) (s .pre .2) (e .before .before .next .result))
-
--- the rows of a huge frame that begins below N are lent too
-rows-read : (a : tie.At-loop Inv-loop μ-loop) (x : ℕ) → let s = entry (a .before) .args in
-    x * 2 ^ s .h < s .n → (x + 1) * rowsOf (s .h) ≤ length (a .loop .rows)
-rows-read a x l = let s = entry (a .before) in rw (a .loop .inv .0) (present-rows (s .pre .0) (s .pre .2 .sized) x l)
+-- the visit's entry, from where it is looked at
+abbrev looking : tie.After-look-arg2 Inv-loop μ-loop → tie.After-entry-at Inv-loop μ-loop
+looking v = v .before .before
 
 look-requires : tie.Need-look-requires Inv-loop μ-loop
 look-requires c κs =
     let e = c .before .before in
     let a = visiting (e .before) in
     let s = entry (a .before) in
-    (s .pre .0, s .pre .1, s .pre .2 .sized .most, entry-read e, entry-small e, rows-read a (e .entry-at .result))
+    let low = entry-low (s .pre .0) (s .pre .2) (e .before .before .next .result) in
+    (s .pre .0, s .pre .1, s .pre .2 .sized .most, entry-read e, rw (x-is e) low, λ l. rw (a .loop .inv .0) (present-rows (s .pre .0) (s .pre .2 .sized) (e .entry-at .result) l))
 
 -- what the visit answered, of the memory as lent
-seen-is : (c : tie.After-look Inv-loop μ-loop) → let e = c .before .before .before in let s = entry (visiting (e .before) .before) .args in
-    c .look .result ≡ visit (s .h) (s .n) (mem (s .rows .now) (s .entries .now)) (s .row) (s .order) (e .entry-at .result)
-seen-is c =
-    let e = c .before .before .before in
+seen-is : (v : tie.After-look Inv-loop μ-loop) → let e = looking (v .before) in let s = entry (visiting (e .before) .before) .args in
+    v .look .result ≡ visit (s .h) (s .n) (mem (s .rows .now) (s .entries .now)) (s .row) (s .order) (e .entry-at .result)
+seen-is v =
+    let e = looking (v .before) in
     let s = entry (visiting (e .before) .before) .args in
     let i = visiting (e .before) .loop .inv in
-    c .look .ensures ∙ ap₂ (λ (rs es : List ℕ). visit (s .h) (s .n) (mem rs es) (s .row) (s .order) (e .entry-at .result)) (i .0) (i .1)
+    v .look .ensures ∙ ap₂ (λ (rs es : List ℕ). visit (s .h) (s .n) (mem rs es) (s .row) (s .order) (e .entry-at .result)) (i .0) (i .1)
 
-enum-told : tie.Need-enum-told Inv-loop μ-loop
-enum-told c = search needs
-
-enum-told-2 : tie.Need-enum-told-2 Inv-loop μ-loop
-enum-told-2 c = search needs
-
-add-t20 : tie.Need-add-t20 Inv-loop μ-loop
-add-t20 c = omega (arith, next-low (c .before .before .before .before .before .before))
+-- ---- it answers damage
 
 same-length : tie.Need-same-length Inv-loop μ-loop
-same-length c = ap length (visiting (c .before .before .before .before .before .before) .loop .inv .0)
+same-length c = ap length (visiting (looking (c .before .before .before) .before) .loop .inv .0)
 
 same-length-2 : tie.Need-same-length-2 Inv-loop μ-loop
-same-length-2 c = ap length (visiting (c .before .before .before .before .before .before) .loop .inv .1)
+same-length-2 c = ap length (visiting (looking (c .before .before .before) .before) .loop .inv .1)
 
 returns : tie.Need-returns Inv-loop μ-loop
 returns c =
-    let k = c .before .before in
-    let e = k .before .before .before in
+    let v = c .before .before in
+    let e = looking (v .before) in
     let i = visiting (e .before) .loop .inv in
     ap₂ (λ (rs es : List ℕ). out (got 8 0 (e .before .before .next .result + 1)) (mem rs es)) (i .0) (i .1)
-    ∙ get-ended _ _ _ _ _ _ _ (at-next (e .before .before)) (e .before .if1 .taken) Damage (sym (c .enum-told2 .given .1) ∙ rw (x-is e) at (seen-is k)) refl
+    ∙ get-ended _ _ _ _ _ _ _ (at-next (e .before .before)) (e .before .if1 .taken) Damage (sym (c .enum-told2 .given .1) ∙ seen-is v ∙ ap (visit _ _ _ _ _) (x-is e)) refl
 
-enum-known-seen : tie.Need-enum-known-seen Inv-loop μ-loop
-enum-known-seen c = search needs
+-- ---- it answers a block
 
--- the visit that answered a block
+-- the visit's entry, from where the block is known, and from where it was turned
 abbrev place : tie.After-seen Inv-loop μ-loop → tie.After-entry-at Inv-loop μ-loop
-place c = c .before .before .before .before .before
+place b = looking (b .before .before .before)
 
--- and that block
-found : (c : tie.After-seen Inv-loop μ-loop) → let e = place c in let s = entry (visiting (e .before) .before) .args in
-    Free (s .h) (s .n) (s .rows .now) (s .entries .now) (s .order) (e .entry-at .result) (c .seen .given .0 .0)
-found c = visit-free (entry (visiting (place c .before) .before) .pre .0) _ _ _ _ _ _ _ (sym (seen-is (c .before .before)) ∙ c .seen .given .1)
+abbrev placed : tie.After-toggle Inv-loop μ-loop → tie.After-seen Inv-loop μ-loop
+placed r = r .before .before .before
 
-write-block-requires : tie.Need-write-block-requires Inv-loop μ-loop
-write-block-requires c κs =
-    let k = c .before .before in
-    let a = visiting (place k .before) in
+-- the block is free
+found : (b : tie.After-seen Inv-loop μ-loop) → let s = entry (visiting (place b .before) .before) .args in
+    Free (s .h) (s .n) (s .rows .now) (s .entries .now) (s .order) (place b .entry-at .result) (b .seen .given .0 .0)
+found b = visit-free (entry (visiting (place b .before) .before) .pre .0) _ _ _ _ _ _ _ (sym (seen-is (b .before .before)) ∙ b .seen .given .1)
+
+toggle-requires : tie.Need-toggle-requires Inv-loop μ-loop
+toggle-requires c κs =
+    let b = c .before .before in
+    let a = visiting (place b .before) in
     let s = entry (a .before) in
-    block-asked (s .pre .0) (s .pre .1) (found-block (s .pre .0) (s .pre .2) (found k)) (ap length (a .loop .inv .0))
+    rw (a .loop .inv .0) (turn-asked (s .pre .0) (s .pre .1) (found-block (s .pre .0) (s .pre .2) (found b)))
 
-mul-lowered : tie.Need-mul-lowered Inv-loop μ-loop
-mul-lowered c = omega (arith, entry-small (place (c .before .before .before .before .before)))
-
--- the visit whose block was written
-abbrev written : tie.After-slice-known4 Inv-loop μ-loop → tie.After-seen Inv-loop μ-loop
-written c = c .before .before .before .before .before .before
-
-slice-read-lowered : tie.Need-slice-read-lowered Inv-loop μ-loop
-slice-read-lowered c = entry-read (place (written c))
-
-lowered-requires : tie.Need-lowered-requires Inv-loop μ-loop
-lowered-requires c κs =
-    let a = visiting (place (written c) .before) in
-    (order-low (entry (a .before)), rw (a .loop .inv .1) (found (written c) .counts))
-
-mul-entries : tie.Need-mul-entries Inv-loop μ-loop
-mul-entries c = omega (arith, entry-small (place (written (c .before))))
-
-slice-write-entries : tie.Need-slice-write-entries Inv-loop μ-loop
-slice-write-entries c = entry-read (place (written (c .before)))
-
-add-t25 : tie.Need-add-t25 Inv-loop μ-loop
-add-t25 c = omega (arith, next-low (place (written (c .before)) .before))
+lower-requires : tie.Need-lower-requires Inv-loop μ-loop
+lower-requires c κs =
+    let b = placed (c .before .before .before) in
+    let a = visiting (place b .before) in
+    let s = entry (a .before) in
+    (omega (arith, s .pre .1, s .pre .0 .high), entry-read (place b), rw (a .loop .inv .1) (found b .counts))
 
 same-length-3 : tie.Need-same-length-3 Inv-loop μ-loop
-same-length-3 c = c .before .before .before .before .write-block .kept .0 ∙ ap length (visiting (place (written (c .before)) .before) .loop .inv .0)
+same-length-3 c = let r = c .before .before .before .before .before .before in r .toggle .kept .1 .0 ∙ ap length (visiting (place (placed r) .before) .loop .inv .0)
 
 same-length-4 : tie.Need-same-length-4 Inv-loop μ-loop
-same-length-4 c = simp length-set (ap length (visiting (place (written (c .before)) .before) .loop .inv .1))
+same-length-4 c = c .before .before .lower .kept .0 ∙ ap length (visiting (place (placed (c .before .before .before .before .before .before)) .before) .loop .inv .1)
 
 returns-2 : tie.Need-returns-2 Inv-loop μ-loop
 returns-2 c =
-    let k = written (c .before) in
-    let e = place k in
-    let a = visiting (e .before) in
-    let i = a .loop .inv in
-    rw (i .1)
-    (get-taken _ _ _ _ _ _ _ _ (at-next (e .before .before)) (e .before .if1 .taken) _ (x-is e) (sym (k .seen .given .1) ∙ seen-is (k .before .before)) (found k)
-    (rw (i .0) at (c .before .before .before .before .write-block .ensures)) (rw (i .1) at (c .lowered .ensures)))
+    let r = c .before .before .before .before .before .before in
+    let b = placed r in
+    let e = place b in
+    let i = visiting (e .before) .loop .inv in
+    get-turned _ _ _ _ _ _ _ _ (at-next (e .before .before)) (e .before .if1 .taken) _ (x-is e) (sym (b .seen .given .1) ∙ seen-is (b .before .before)) (found b)
+    (i .0) (i .1) (r .toggle .ensures) (c .before .before .lower .ensures)
 
-add-j : tie.Need-add-j Inv-loop μ-loop
-add-j c = omega (arith, next-low (c .before .before .before .before .before .before))
+-- ---- it is passed, or there is none
 
 loop-less : tie.Need-loop-less Inv-loop μ-loop
-loop-less c =
-    let e = c .before .before .before .before .before in
-    omega (arith, forward (e .before .before), e .before .if1 .taken)
+loop-less c = let e = looking (c .before .before .before) in omega (arith, forward (e .before .before), e .before .if1 .taken)
 
 loop-again : tie.Need-loop-again Inv-loop μ-loop
 loop-again c =
-    let k = c .before .before in
-    let e = k .before .before .before in
+    let v = c .before .before in
+    let e = looking (v .before) in
     let i = visiting (e .before) .loop .inv in
-    (i .0, i .1, first-more _ _ _ (at-next (e .before .before)) (e .before .if1 .taken) (ap stops (sym (rw (x-is e) at (seen-is k)) ∙ c .enum-told .given .1)))
-
-loop-less-2 : tie.Need-loop-less-2 Inv-loop μ-loop
-loop-less-2 c = omega (arith, c .if1 .left, c .before .before .before .loop-test .taken)
+    (i .0, i .1, first-more _ _ _ (at-next (e .before .before)) (e .before .if1 .taken) (ap stops (sym (seen-is v ∙ ap (visit _ _ _ _ _) (x-is e)) ∙ c .enum-told .given .1)))
 
 loop-again-2 : tie.Need-loop-again-2 Inv-loop μ-loop
 loop-again-2 c = let i = turn (c .before .before) .loop .inv in (i .0, i .1, at-next (c .before))
-
-same-length-5 : tie.Need-same-length-5 Inv-loop μ-loop
-same-length-5 c = ap length (c .before .loop .inv .0)
-
-same-length-6 : tie.Need-same-length-6 Inv-loop μ-loop
-same-length-6 c = ap length (c .before .loop .inv .1)
 
 returns-3 : tie.Need-returns-3 Inv-loop μ-loop
 returns-3 c = let i = c .before .loop .inv in rw (i .0, i .1) (get-none _ _ _ _ _ _ _ (i .2) (c .loop-test .left))
@@ -236,33 +191,29 @@ get-spec =
     (tie.spec
     Inv-loop
     μ-loop
-    row-huge-requires
+    (λ c κs. search needs)
     loop-holds
     next-requires
     entry-at-requires
     look-requires
-    enum-told
-    enum-told-2
-    add-t20
+    (λ c. search needs)
+    (λ c. search needs)
+    (λ c. search needs)
     same-length
     same-length-2
     returns
-    enum-known-seen
-    write-block-requires
-    mul-lowered
-    slice-read-lowered
-    lowered-requires
-    mul-entries
-    slice-write-entries
-    add-t25
+    (λ c. search needs)
+    toggle-requires
+    lower-requires
+    (λ c. search needs)
     same-length-3
     same-length-4
     returns-2
-    add-j
+    (λ c. search needs)
     loop-less
     loop-again
-    loop-less-2
+    (λ c. search needs)
     loop-again-2
-    same-length-5
-    same-length-6
+    (λ c. search needs)
+    (λ c. search needs)
     returns-3)

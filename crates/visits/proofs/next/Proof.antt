@@ -1,15 +1,16 @@
 -- `visits::next` meets its contract. The loop's invariant: no visit from the one after j others up to that after i has an eligible entry.
 -- The measure is what is left of the tree. Assumes nothing.
-use mathlib.Core.Path.{_≡_, refl, sym, _∙_}
-use Prim.Native.Nat.{_-_, _≤_, _<_}
+use mathlib.Core.Path.{_≡_, sym, ap₂, _∙_}
+use Prim.Native.Nat.{ℕ, _-_, _≤_, _<_}
 use native.Mathlib.Omega.{arith}
+use lib.Dec.{leb}
 use lib.ListN.{length}
 use lib.Pow.{pow-pos}
 use borrow.Author.Needs.{needs}
 use Rattle.base.proofs.Walks.{FirstFrom, from-found, from-more, from-none}
-use Rattle.base.proofs.Masks.{shl-one}
+use Rattle.rules.specs.State.{entryOf, freeOf}
 use Rattle.rules.proofs.Numbers.{tree-high}
-use Rattle.rules.proofs.GetSteps.{entry-in, entry-near}
+use Rattle.rules.proofs.GetSteps.{entry-in}
 use Rattle.visits.proofs.Skips.{eligibleAt}
 use Rattle.visits.proofs.next.Statement.{statement}
 use Rattle.visits.proofs.next.Tie as tie
@@ -20,23 +21,12 @@ Inv-loop entries t x order j size i₀ i = (i ≤ t) × FirstFrom (eligibleAt t 
 abbrev μ-loop : tie.MeasureT-loop
 μ-loop entries t x order j size i₀ i = t - i
 
-cast-size : tie.Need-cast-size Inv-loop μ-loop
-cast-size c = omega (arith, c .before .pre .3)
-
-shl-size : tie.Need-shl-size Inv-loop μ-loop
-shl-size c = c .before .pre .3
-
-loop-holds : tie.Need-loop-holds Inv-loop μ-loop
-loop-holds c = (c .before .pre .4, refl)
-
 -- the function's entry, from a turn of the loop
 abbrev entry : tie.At-loop Inv-loop μ-loop → tie.Start Inv-loop μ-loop
-entry a = a .before .before
+entry a = a .before .before .before
 
 entry-at-requires : tie.Need-entry-at-requires Inv-loop μ-loop
-entry-at-requires c κs =
-    let s = entry (c .before) in
-    (s .pre .0, s .pre .1, omega (arith, c .before .loop .inv .0, tree-high (s .args .t) (s .pre .0)))
+entry-at-requires c κs = let s = entry (c .before) in (s .pre .0, s .pre .1, omega (arith, c .before .loop .inv .0, tree-high (s .args .t) (s .pre .0)))
 
 -- the entry is lent
 lent : (c : tie.After-entry-at Inv-loop μ-loop) → c .entry-at .result < length (entry (c .before .before) .args .entries .now)
@@ -45,37 +35,27 @@ lent c =
     omega (arith, c .entry-at .ensures, entry-in (s .args .t) (s .args .x) (s .pre .0) (c .before .before .loop .i), s .pre .2)
 
 mul-counts : tie.Need-mul-counts Inv-loop μ-loop
-mul-counts c =
-    let s = entry (c .before .before) in
-    omega (arith, c .entry-at .ensures, entry-near (s .args .t) (s .args .x) (s .pre .0) (c .before .before .loop .i), s .pre .1)
+mul-counts c = omega (arith, lent c)
 
 shared-slice-read-counts : tie.Need-shared-slice-read-counts Inv-loop μ-loop
 shared-slice-read-counts c = lent (c .before)
 
 counts-requires : tie.Need-counts-requires Inv-loop μ-loop
-counts-requires c κs = let s = entry (c .before .before .before) in rw (shl-one 16 (s .args .order) (s .pre .3)) (pow-pos (s .args .order))
+counts-requires c κs = let a = c .before .before .before in omega (arith, a .before .size .ensures, pow-pos (entry a .args .order))
 
 -- what the test says of the entry
 tells : (c : tie.After-counts Inv-loop μ-loop) → let a = c .before .before .before .before in let s = entry a .args in
     c .counts .result ≡ eligibleAt (s .t) (s .entries .now) (s .x) (s .order) (a .loop .i)
 tells c =
-    let s = entry (c .before .before .before .before) in
-    rw (shl-one 16 (s .args .order) (s .pre .3), c .before .before .entry-at .ensures) at (c .counts .ensures)
+    let a = c .before .before .before .before in
+    let s = entry a .args in
+    c .counts .ensures ∙ ap₂ (λ (z x : ℕ). leb z (freeOf (entryOf (s .entries .now) x))) (a .before .size .ensures) (c .before .before .entry-at .ensures)
 
 returns : tie.Need-returns Inv-loop μ-loop
 returns c =
     let k = c .before in
     let a = k .before .before .before .before in
     from-found _ _ _ _ (a .loop .inv .1) (k .before .before .before .loop-test .taken) (sym (tells k) ∙ c .if1 .taken)
-
-add-i : tie.Need-add-i Inv-loop μ-loop
-add-i c =
-    let a = c .before .before .before .before .before in
-    let s = entry a in
-    omega (arith, a .loop .inv .0, tree-high (s .args .t) (s .pre .0))
-
-loop-less : tie.Need-loop-less Inv-loop μ-loop
-loop-less c = search needs
 
 loop-again : tie.Need-loop-again Inv-loop μ-loop
 loop-again c =
@@ -96,15 +76,14 @@ next-spec =
     (tie.spec
     Inv-loop
     μ-loop
-    cast-size
-    shl-size
-    loop-holds
+    (λ c κs. search needs)
+    (λ c. search needs)
     entry-at-requires
     mul-counts
     shared-slice-read-counts
     counts-requires
     returns
-    add-i
-    loop-less
+    (λ c. search needs)
+    (λ c. search needs)
     loop-again
     returns-2)
