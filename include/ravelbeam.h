@@ -27,9 +27,10 @@
  *     and results lie apart from each other, and nobody else writes them during the call.
  *   - The caller gives the same N and T to all calls on a state: nothing is kept between calls.
  *
- * The archive to link is target/staticlib/libravelbeam.a, made by `rt staticlib ravelbeam`. It is for
- * x86-64, in the System V calling convention with its vector registers and its red zone, and calls
- * nothing but memcpy and memset. */
+ * The archive to link, libravelbeam.a, is made in the repository: by tools/native for programs on the
+ * machine at hand, by tools/archive for those on x86-64, by tools/kernel for kernels on x86-64, aarch64
+ * and riscv64. The first two use vector registers and may use the red zone; those for kernels use
+ * neither. None calls anything but memcpy and memset. All are for 64-bit targets. */
 
 #ifndef RAVELBEAM_H
 #define RAVELBEAM_H
@@ -37,8 +38,19 @@
 #include <stddef.h>
 #include <stdint.h>
 
+#if SIZE_MAX != UINT64_MAX
+#error "ravelbeam.h is for 64-bit targets"
+#endif
+
 #define RB_MAX_FRAMES 1048576
 #define RB_MARK 65535
+#define RB_HUGE_ORDER 9
+#define RB_ORDERS 19 /* that a block can have if T is 512: 0 to 18 */
+
+/* The top order, for T one of the ten. */
+#define RB_TOP_ORDER(t) \
+    (RB_HUGE_ORDER + ((t) > 1) + ((t) > 2) + ((t) > 4) + ((t) > 8) + ((t) > 16) + ((t) > 32) + ((t) > 64) + \
+     ((t) > 128) + ((t) > 256))
 
 /* The rows and entries that N frames need, for N and T as above; others may wrap or divide by 0. */
 #define RB_ROWS_NEEDED(n) (((n) + 511) / 512 * 8)
@@ -50,9 +62,10 @@
 #define RB_BAD_TREE 2      /* T is not one of the ten */
 #define RB_BAD_LENT 3      /* rows_len or entries_len is less than needed */
 #define RB_BAD_ORDER 4     /* the order is above the top order */
-#define RB_BAD_RANGE 5     /* the block ends past N, or the frame or start row is not below N */
+#define RB_BAD_RANGE 5     /* the block ends past N; or the frame, or in rb_get row * 64, is not below N */
 #define RB_BAD_ALIGNMENT 6 /* the block's first frame is not a multiple of 2^order */
-#define RB_MEMORY 7        /* no such block is free, or the given one is not all free or all held */
+#define RB_MEMORY 7        /* get: no such block is free, or not all of the given one; put: not all of it is
+                            * held, or from order 9 up not held whole */
 #define RB_DAMAGE 8        /* the call came upon a state that is not consistent */
 
 /* What an audit says of a huge frame. */
@@ -104,8 +117,9 @@ uint32_t rb_get(size_t n, size_t t, uint64_t *rows, size_t rows_len, uint16_t *e
 uint32_t rb_get_at(size_t n, size_t t, uint64_t *rows, size_t rows_len, uint16_t *entries,
                    size_t entries_len, size_t frame, size_t order, size_t *taken, size_t *probes);
 
-/* Gives a block back, be it one that was taken or not, if all of it is held. Below order 9 it may be
- * a part of a huge frame with the mark; then the other frames are held by their bits.
+/* Gives a block back, be it one that was taken or not, if all of it is held, from order 9 on if it is
+ * held whole. Below order 9 it may be a part of a huge frame with the mark; then the other frames are
+ * held by their bits.
  *
  * Refused: 1 to 6; 7 if a bit of it is clear or its entry counts too many frames, from order 9 on if
  * an entry of it is not the mark; 8 below order 9, if a bit of its huge frame is set under the mark.
@@ -158,7 +172,7 @@ uint32_t rb_recover(size_t n, size_t t, uint64_t *rows, size_t rows_len, uint16_
  * a block counts if its entries are all 512; above it nothing does. It looks at no row.
  * Refused: 1, 2, 3; 5 if frame >= N. */
 uint32_t rb_room(size_t n, size_t t, const uint64_t *rows, size_t rows_len,
-                 const uint16_t *entries, size_t entries_len, size_t frame, size_t counts[19]);
+                 const uint16_t *entries, size_t entries_len, size_t frame, size_t counts[RB_ORDERS]);
 
 /* The entries of a frame's tree: *length of them, which is T, from entries[*offset] on. It looks at no
  * row and no entry.
@@ -211,6 +225,140 @@ uint32_t rb_bitfield_count_zeros(const uint64_t *rows, size_t rows_len, size_t *
 /* *place is the lowest clear block of an order in row v, 0 to 63, and *row is v with its bits set.
  * Refused: 4 above order 6; 7 if there is none. */
 uint32_t rb_first_zeros_aligned(uint64_t v, size_t order, size_t *place, uint64_t *row);
+
+/* -- A state as one argument ----------------------------------------------------------------------
+ *
+ * Inline functions, which are not in the archive: each makes the call above of the same name. If RB_PLAIN
+ * is defined, there are none. */
+
+#ifndef RB_PLAIN
+
+/* What every call is given first. */
+struct rb_state {
+    size_t n, t;
+    uint64_t *rows;
+    size_t rows_len;
+    uint16_t *entries;
+    size_t entries_len;
+};
+#define RB_LENT(state) \
+    (state)->n, (state)->t, (state)->rows, (state)->rows_len, (state)->entries, (state)->entries_len
+
+/* Defines a static state, with as much memory as n and t need, all zero. Until it is started nothing of
+ * it is free, and its gets and puts are refused with 7. */
+#define RB_STATE(name, n, t) \
+    static uint64_t name##_rows[RB_ROWS_NEEDED(n)]; \
+    static uint16_t name##_entries[RB_ENTRIES_NEEDED(n, t)]; \
+    static struct rb_state name = {(n), (t), name##_rows, RB_ROWS_NEEDED(n), name##_entries, \
+                                   RB_ENTRIES_NEEDED(n, t)}
+
+static inline uint32_t rb_state_free_all(struct rb_state *state)
+{
+    return rb_free_all(RB_LENT(state));
+}
+
+static inline uint32_t rb_state_reserve_all(struct rb_state *state)
+{
+    return rb_reserve_all(RB_LENT(state));
+}
+
+static inline uint32_t rb_state_get(struct rb_state *state, size_t row, size_t order, size_t *frame,
+                                    size_t *probes)
+{
+    return rb_get(RB_LENT(state), row, order, frame, probes);
+}
+
+static inline uint32_t rb_state_get_at(struct rb_state *state, size_t frame, size_t order,
+                                       size_t *taken, size_t *probes)
+{
+    return rb_get_at(RB_LENT(state), frame, order, taken, probes);
+}
+
+static inline uint32_t rb_state_put(struct rb_state *state, size_t frame, size_t order)
+{
+    return rb_put(RB_LENT(state), frame, order);
+}
+
+static inline uint32_t rb_state_is_free(const struct rb_state *state, size_t frame, size_t order,
+                                        uint32_t *yes)
+{
+    return rb_is_free(RB_LENT(state), frame, order, yes);
+}
+
+static inline uint32_t rb_state_stats(const struct rb_state *state, size_t *free_frames,
+                                      size_t *free_huge, size_t *free_trees)
+{
+    return rb_stats(RB_LENT(state), free_frames, free_huge, free_trees);
+}
+
+static inline uint32_t rb_state_stats_at(const struct rb_state *state, size_t frame, size_t order,
+                                         size_t *free_frames, size_t *free_huge, size_t *free_trees)
+{
+    return rb_stats_at(RB_LENT(state), frame, order, free_frames, free_huge, free_trees);
+}
+
+static inline uint32_t rb_state_audit(const struct rb_state *state, size_t *huge, uint32_t *reason)
+{
+    return rb_audit(RB_LENT(state), huge, reason);
+}
+
+static inline uint32_t rb_state_recover(struct rb_state *state, size_t *entries_changed,
+                                        size_t *bitfields_changed)
+{
+    return rb_recover(RB_LENT(state), entries_changed, bitfields_changed);
+}
+
+static inline uint32_t rb_state_room(const struct rb_state *state, size_t frame,
+                                     size_t counts[RB_ORDERS])
+{
+    return rb_room(RB_LENT(state), frame, counts);
+}
+
+static inline uint32_t rb_state_tree_run(const struct rb_state *state, size_t frame, size_t *offset,
+                                         size_t *length)
+{
+    return rb_tree_run(RB_LENT(state), frame, offset, length);
+}
+
+/* The order of the largest block that begins at a frame and ends at or before another frame, at most the
+ * top order. By it a range of frames is walked in blocks; docs/KERNEL.md starts memory with holes so. */
+static inline size_t rb_block_order(size_t frame, size_t end, size_t top)
+{
+    size_t order = 0;
+
+    while (order < top && frame % ((size_t)2 << order) == 0 && end - frame >= (size_t)2 << order)
+        order++;
+    return order;
+}
+
+/* What a code says, in words. */
+static inline const char *rb_text(uint32_t code)
+{
+    switch (code) {
+    case RB_DONE:
+        return "done";
+    case RB_BAD_FRAMES:
+        return "no frames, or too many";
+    case RB_BAD_TREE:
+        return "not a tree's number of huge frames";
+    case RB_BAD_LENT:
+        return "too few rows or entries lent";
+    case RB_BAD_ORDER:
+        return "order too high";
+    case RB_BAD_RANGE:
+        return "the block ends past the frames, or the frame or row * 64 is not below their number";
+    case RB_BAD_ALIGNMENT:
+        return "frame not aligned";
+    case RB_MEMORY:
+        return "get: no such block is free; put: not all of it is held, or from order 9 up not held whole";
+    case RB_DAMAGE:
+        return "damaged state";
+    default:
+        return "not a code";
+    }
+}
+
+#endif
 
 #ifdef __cplusplus
 }

@@ -37,12 +37,13 @@ static void check(int line, int holds, const char *what)
 {
     if (holds)
         return;
-    printf("tests/c/ravelbeam.c:%d: not so: %s\n", line, what);
+    printf("tests/c/ravelbeam.c or once.h, line %d: not so: %s\n", line, what);
     printf("with N = %zu, T = %zu, %zu rows and %zu entries lent; the last code is %u\n", n, t, rows_len, entries_len,
            last_code);
     exit(1);
 }
 #define CHECK(holds) check(__LINE__, holds, #holds)
+#include "once.h"
 
 /* A call that may write: one that is refused leaves all memory as it was, one that is done all but the needed rows and
  * entries. One that only asks leaves all of it. */
@@ -559,6 +560,48 @@ static void bitfield(void)
     search_refused(8, 0, RB_MEMORY);
 }
 
+/* Every range of frames between two boundaries is covered by blocks, each the largest that can be, and can be given
+ * back by them. */
+static void ranges(void)
+{
+    static const size_t ends[] = {0, 1, 2, 3, 63, 64, 65, 511, 512, 513, 1023, 1024, 1025, 2047, 2048, 2049, 2499, 2500};
+    const size_t top = RB_TOP_ORDER(2);
+
+    for (size_t i = 0; i < LENGTH(ends); i++)
+        for (size_t j = i; j < LENGTH(ends); j++) {
+            size_t at = ends[i];
+
+            CHECK(rb_state_reserve_all(&zone) == RB_DONE);
+            while (at < ends[j]) {
+                size_t order = rb_block_order(at, ends[j], top), block = (size_t)1 << order;
+
+                CHECK(order <= top && at % block == 0 && at + block <= ends[j]);
+                CHECK(order == top || at % (2 * block) != 0 || at + 2 * block > ends[j]);
+                CHECK(rb_state_put(&zone, at, order) == RB_DONE);
+                at += block;
+            }
+            CHECK(rb_state_audit(&zone, &huge, &reason) == RB_DONE && reason == RB_SOUND);
+            for (at = 0; at < 2500; at++)
+                CHECK(rb_state_is_free(&zone, at, 0, &yes) == RB_DONE && yes == (at >= ends[i] && at < ends[j]));
+        }
+}
+
+/* Top orders, and codes in words that tell them apart. */
+static void numbers_and_words(void)
+{
+    static const char orders[RB_TOP_ORDER(512) + 1];
+
+    CHECK(LENGTH(orders) == RB_ORDERS);
+    for (size_t tree = 1, top = RB_HUGE_ORDER; tree <= 512; tree *= 2, top++)
+        CHECK((size_t)RB_TOP_ORDER(tree) == top);
+    for (uint32_t code = 0; code <= RB_DAMAGE + 1; code++)
+        for (uint32_t other = 0; other < code; other++)
+            CHECK(strcmp(rb_text(code), rb_text(other)) != 0);
+    CHECK(strcmp(rb_text(RB_DONE), "done") == 0 && strcmp(rb_text(UINT32_MAX), rb_text(9)) == 0);
+    CHECK(strcmp(rb_text(RB_MEMORY), "get: no such block is free; put: not all of it is held, or from order 9 up not "
+                                     "held whole") == 0);
+}
+
 int main(void)
 {
     example();
@@ -571,5 +614,8 @@ int main(void)
     faults();
     trees();
     bitfield();
+    each_call_once();
+    ranges();
+    numbers_and_words();
     return 0;
 }

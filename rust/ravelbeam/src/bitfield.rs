@@ -7,7 +7,7 @@
 use core::ops::Range;
 
 use crate::error::{Error, check};
-use crate::ffi;
+use crate::{FrameId, RowId, ffi};
 
 /// The eight rows of a huge frame. Frame f is bit f mod 64 of row f div 64.
 pub type Rows = [u64; 8];
@@ -23,7 +23,15 @@ pub struct Found {
 
 /// Finds the lowest aligned block of 2^`order` clear bits in one row.
 ///
-/// Refused with 4 where the order is above 6, and with 7 where there is no such block.
+/// # Errors
+///
+/// 4 where the order is above 6, and 7 where there is no such block.
+///
+/// ```
+/// use ravelbeam::bitfield::{Found, first_zeros_aligned};
+///
+/// assert_eq!(first_zeros_aligned(0b0001, 1), Ok(Found { place: 2, row: 0b1101 }));
+/// ```
 pub fn first_zeros_aligned(row: u64, order: usize) -> Result<Found, Error> {
     let (code, place, row) = ffi::first_zeros_aligned(row, order);
     check(code, Found { place, row })
@@ -31,23 +39,56 @@ pub fn first_zeros_aligned(row: u64, order: usize) -> Result<Found, Error> {
 
 /// Overwrites the bits of a range. An empty range changes nothing.
 ///
-/// Refused with 5 where it ends before it starts, or past 512.
-pub fn set(rows: &mut Rows, range: Range<usize>, value: bool) -> Result<(), Error> {
-    check(ffi::set(rows, range.start, range.end, value), ())
+/// # Errors
+///
+/// 5 where the range ends before it starts, or past 512.
+///
+/// ```
+/// use ravelbeam::{Error, FrameId, bitfield};
+///
+/// let mut rows = [0; 8];
+/// bitfield::set(&mut rows, FrameId(60)..FrameId(66), true)?;
+/// assert_eq!(rows, [0xf << 60, 3, 0, 0, 0, 0, 0, 0]);
+/// # Ok::<(), Error>(())
+/// ```
+pub fn set(rows: &mut Rows, range: Range<FrameId>, value: bool) -> Result<(), Error> {
+    check(ffi::set(rows, range, value), ())
 }
 
 /// Turns the bits of the block of 2^`order` frames at `place`, where all of them are as `expected`.
 ///
-/// Refused with 4 where the order is above 9, 5 where the block ends past 512, 6 where it is not aligned, and
-/// with 7 where some bit is not as expected.
-pub fn toggle(rows: &mut Rows, place: usize, order: usize, expected: bool) -> Result<(), Error> {
+/// # Errors
+///
+/// 4 where the order is above 9, 5 where the block ends past 512, 6 where it is not aligned, and 7 where some
+/// bit is not as expected.
+///
+/// ```
+/// use ravelbeam::{Error, FrameId, bitfield};
+///
+/// let mut rows = [0; 8];
+/// bitfield::toggle(&mut rows, FrameId(4), 2, false)?;
+/// assert_eq!(rows[0], 0xf0);
+/// assert_eq!(bitfield::toggle(&mut rows, FrameId(0), 3, false), Err(Error::Memory));
+/// # Ok::<(), Error>(())
+/// ```
+pub fn toggle(rows: &mut Rows, place: FrameId, order: usize, expected: bool) -> Result<(), Error> {
     check(ffi::toggle(rows, place, order, expected), ())
 }
 
 /// Whether all frames of the block of 2^`order` frames at `place` are free.
 ///
-/// Refused with 4 where the order is above 9, 5 where the block ends past 512, and 6 where it is not aligned.
-pub fn is_zero(rows: &Rows, place: usize, order: usize) -> Result<bool, Error> {
+/// # Errors
+///
+/// 4 where the order is above 9, 5 where the block ends past 512, and 6 where it is not aligned.
+///
+/// ```
+/// use ravelbeam::{FrameId, bitfield};
+///
+/// let rows = [0, 1, 0, 0, 0, 0, 0, 0];
+/// assert_eq!(bitfield::is_zero(&rows, FrameId(0), 6), Ok(true));
+/// assert_eq!(bitfield::is_zero(&rows, FrameId(0), 7), Ok(false));
+/// ```
+pub fn is_zero(rows: &Rows, place: FrameId, order: usize) -> Result<bool, Error> {
     let (code, yes) = ffi::is_zero(rows, place, order);
     check(code, yes)
 }
@@ -57,27 +98,55 @@ pub fn is_zero(rows: &Rows, place: usize, order: usize) -> Result<bool, Error> {
 /// Orders 0 to 6: the rows from `start_row` (modulo 8) on, wrapping, and in a row the lowest place. Orders 7
 /// to 9: groups of rows from row 0, wherever the start row is.
 ///
-/// Refused with 4 where the order is above 9, and with 7 where there is no such block.
-pub fn first_zeros(rows: &Rows, start_row: usize, order: usize) -> Result<usize, Error> {
+/// # Errors
+///
+/// 4 where the order is above 9, and 7 where there is no such block.
+///
+/// ```
+/// use ravelbeam::{FrameId, RowId, bitfield};
+///
+/// assert_eq!(bitfield::first_zeros(&[0; 8], RowId(3), 0), Ok(FrameId(192)));
+/// ```
+pub fn first_zeros(rows: &Rows, start_row: RowId, order: usize) -> Result<FrameId, Error> {
     let (code, place) = ffi::first_zeros(rows, start_row, order);
     check(code, place)
 }
 
 /// Takes the block that [`first_zeros`] finds: sets its bits, and gives its place.
 ///
-/// Refused as [`first_zeros`] is.
-pub fn set_first_zeros(rows: &mut Rows, start_row: usize, order: usize) -> Result<usize, Error> {
+/// # Errors
+///
+/// As [`first_zeros`].
+///
+/// ```
+/// use ravelbeam::{FrameId, RowId, bitfield};
+///
+/// let mut rows = [1, 0, 0, 0, 0, 0, 0, 0];
+/// assert_eq!(bitfield::set_first_zeros(&mut rows, RowId(0), 1), Ok(FrameId(2)));
+/// assert_eq!(rows[0], 0b1101);
+/// ```
+pub fn set_first_zeros(rows: &mut Rows, start_row: RowId, order: usize) -> Result<FrameId, Error> {
     let (code, place) = ffi::set_first_zeros(rows, start_row, order);
     check(code, place)
 }
 
 /// Overwrites every bit.
+///
+/// ```
+/// let mut rows = [0; 8];
+/// ravelbeam::bitfield::fill(&mut rows, true);
+/// assert_eq!(rows, [u64::MAX; 8]);
+/// ```
 pub fn fill(rows: &mut Rows, value: bool) {
     let code = ffi::fill(rows, value);
     debug_assert_eq!(code, 0);
 }
 
 /// The number of free frames.
+///
+/// ```
+/// assert_eq!(ravelbeam::bitfield::count_zeros(&[1; 8]), 504);
+/// ```
 pub fn count_zeros(rows: &Rows) -> usize {
     let (code, zeros) = ffi::count_zeros(rows);
     debug_assert_eq!(code, 0);

@@ -16,18 +16,24 @@ pub enum Error {
     Lent = 3,
     /// 4: the order is above that of a whole tree, in a bitfield above 9, in one row above 6.
     Order = 4,
-    /// 5: the block, the frame or the start row is not below the number of frames, in a bitfield 512.
+    /// 5: the block ends past the number of frames, in a bitfield past 512; the frame is not below it; or, in
+    /// a get without a frame, the start row's number times 64 is not.
     Range = 5,
     /// 6: the block's first frame is no multiple of the block's length.
     Alignment = 6,
-    /// 7: no such block is free, or the block is not wholly free or held, as the call wants it.
+    /// 7: of a get, no such block is free, or not all of the chosen one. Of a put, not all of it is held, or
+    /// from order 9 up not held whole: 512 frames that were taken singly are not a huge frame that was.
     Memory = 7,
     /// 8: the rows and entries contradict each other or the number of frames.
     Damage = 8,
 }
 
 impl Error {
-    /// Document 01's number, 1 to 8.
+    /// Document 01's number, 1 to 8, which the calls in C answer.
+    ///
+    /// ```
+    /// assert_eq!(ravelbeam::Error::Memory.number(), 7);
+    /// ```
     pub const fn number(self) -> u32 {
         self as u32
     }
@@ -56,9 +62,13 @@ impl fmt::Display for Error {
             Error::Tree => "not a tree's number of huge frames",
             Error::Lent => "too few rows or entries lent",
             Error::Order => "order too high",
-            Error::Range => "frame or row out of range",
+            Error::Range => {
+                "the block ends past the frames, or the frame or row * 64 is not below their number"
+            }
             Error::Alignment => "frame not aligned",
-            Error::Memory => "no such block is free, or not all of it is held",
+            Error::Memory => {
+                "get: no such block is free; put: not all of it is held, or from order 9 up not held whole"
+            }
             Error::Damage => "damaged state",
         };
         write!(f, "{reason} ({})", self.number())

@@ -6,9 +6,11 @@
 //! ask of a caller holds in every block below: a slice goes as its own pointer and length, a slice that is
 //! written is borrowed by `&mut`, and the lent numbers are the function's own.
 
+use core::ops::Range;
+
 use crate::bitfield::Rows;
 use crate::calls::*;
-use crate::{Got, Lower, ORDERS, Recovered, Stats};
+use crate::{FrameId, Got, HugeId, Lower, ORDERS, Recovered, RowId, Stats};
 
 pub fn first_zeros_aligned(v: u64, order: usize) -> (u32, usize, u64) {
     let (mut place, mut row) = (0, 0);
@@ -16,30 +18,32 @@ pub fn first_zeros_aligned(v: u64, order: usize) -> (u32, usize, u64) {
     (code, place, row)
 }
 
-pub fn set(rows: &mut Rows, start: usize, end: usize, value: bool) -> u32 {
-    unsafe { rb_bitfield_set(rows.as_mut_ptr(), rows.len(), start, end, value.into()) }
+pub fn set(rows: &mut Rows, range: Range<FrameId>, value: bool) -> u32 {
+    unsafe { rb_bitfield_set(rows.as_mut_ptr(), rows.len(), range.start.0, range.end.0, value.into()) }
 }
 
-pub fn toggle(rows: &mut Rows, place: usize, order: usize, expected: bool) -> u32 {
-    unsafe { rb_bitfield_toggle(rows.as_mut_ptr(), rows.len(), place, order, expected.into()) }
+pub fn toggle(rows: &mut Rows, place: FrameId, order: usize, expected: bool) -> u32 {
+    unsafe { rb_bitfield_toggle(rows.as_mut_ptr(), rows.len(), place.0, order, expected.into()) }
 }
 
-pub fn is_zero(rows: &Rows, place: usize, order: usize) -> (u32, bool) {
+pub fn is_zero(rows: &Rows, place: FrameId, order: usize) -> (u32, bool) {
     let mut yes = 0;
-    let code = unsafe { rb_bitfield_is_zero(rows.as_ptr(), rows.len(), place, order, &mut yes) };
+    let code = unsafe { rb_bitfield_is_zero(rows.as_ptr(), rows.len(), place.0, order, &mut yes) };
     (code, yes != 0)
 }
 
-pub fn first_zeros(rows: &Rows, start_row: usize, order: usize) -> (u32, usize) {
-    let mut place = 0;
-    let code = unsafe { rb_bitfield_first_zeros(rows.as_ptr(), rows.len(), start_row, order, &mut place) };
+pub fn first_zeros(rows: &Rows, start_row: RowId, order: usize) -> (u32, FrameId) {
+    let mut place = FrameId(0);
+    let code =
+        unsafe { rb_bitfield_first_zeros(rows.as_ptr(), rows.len(), start_row.0, order, &mut place.0) };
     (code, place)
 }
 
-pub fn set_first_zeros(rows: &mut Rows, start_row: usize, order: usize) -> (u32, usize) {
-    let mut place = 0;
-    let code =
-        unsafe { rb_bitfield_set_first_zeros(rows.as_mut_ptr(), rows.len(), start_row, order, &mut place) };
+pub fn set_first_zeros(rows: &mut Rows, start_row: RowId, order: usize) -> (u32, FrameId) {
+    let mut place = FrameId(0);
+    let code = unsafe {
+        rb_bitfield_set_first_zeros(rows.as_mut_ptr(), rows.len(), start_row.0, order, &mut place.0)
+    };
     (code, place)
 }
 
@@ -78,25 +82,25 @@ pub fn reserve_all(lower: &mut Lower<'_>) -> u32 {
     call!(rb_reserve_all, lower, as_mut_ptr)
 }
 
-pub fn get(lower: &mut Lower<'_>, row: usize, order: usize) -> (u32, Got) {
+pub fn get(lower: &mut Lower<'_>, row: RowId, order: usize) -> (u32, Got) {
     let mut got = Got::default();
-    let code = call!(rb_get, lower, as_mut_ptr, row, order, &mut got.frame, &mut got.probes);
+    let code = call!(rb_get, lower, as_mut_ptr, row.0, order, &mut got.frame.0, &mut got.probes);
     (code, got)
 }
 
-pub fn get_at(lower: &mut Lower<'_>, frame: usize, order: usize) -> (u32, Got) {
+pub fn get_at(lower: &mut Lower<'_>, frame: FrameId, order: usize) -> (u32, Got) {
     let mut got = Got::default();
-    let code = call!(rb_get_at, lower, as_mut_ptr, frame, order, &mut got.frame, &mut got.probes);
+    let code = call!(rb_get_at, lower, as_mut_ptr, frame.0, order, &mut got.frame.0, &mut got.probes);
     (code, got)
 }
 
-pub fn put(lower: &mut Lower<'_>, frame: usize, order: usize) -> u32 {
-    call!(rb_put, lower, as_mut_ptr, frame, order)
+pub fn put(lower: &mut Lower<'_>, frame: FrameId, order: usize) -> u32 {
+    call!(rb_put, lower, as_mut_ptr, frame.0, order)
 }
 
-pub fn is_free(lower: &Lower<'_>, frame: usize, order: usize) -> (u32, bool) {
+pub fn is_free(lower: &Lower<'_>, frame: FrameId, order: usize) -> (u32, bool) {
     let mut yes = 0;
-    let code = call!(rb_is_free, lower, as_ptr, frame, order, &mut yes);
+    let code = call!(rb_is_free, lower, as_ptr, frame.0, order, &mut yes);
     (code, yes != 0)
 }
 
@@ -107,16 +111,16 @@ pub fn stats(lower: &Lower<'_>) -> (u32, Stats) {
     (code, stats)
 }
 
-pub fn stats_at(lower: &Lower<'_>, frame: usize, order: usize) -> (u32, Stats) {
+pub fn stats_at(lower: &Lower<'_>, frame: FrameId, order: usize) -> (u32, Stats) {
     let mut stats = Stats::default();
     let Stats { free_frames, free_huge, free_trees } = &mut stats;
-    let code = call!(rb_stats_at, lower, as_ptr, frame, order, free_frames, free_huge, free_trees);
+    let code = call!(rb_stats_at, lower, as_ptr, frame.0, order, free_frames, free_huge, free_trees);
     (code, stats)
 }
 
-pub fn audit(lower: &Lower<'_>) -> (u32, usize, u32) {
-    let (mut huge, mut reason) = (0, 0);
-    let code = call!(rb_audit, lower, as_ptr, &mut huge, &mut reason);
+pub fn audit(lower: &Lower<'_>) -> (u32, HugeId, u32) {
+    let (mut huge, mut reason) = (HugeId(0), 0);
+    let code = call!(rb_audit, lower, as_ptr, &mut huge.0, &mut reason);
     (code, huge, reason)
 }
 
@@ -127,14 +131,14 @@ pub fn recover(lower: &mut Lower<'_>) -> (u32, Recovered) {
     (code, recovered)
 }
 
-pub fn room(lower: &Lower<'_>, frame: usize) -> (u32, [usize; ORDERS]) {
+pub fn room(lower: &Lower<'_>, frame: FrameId) -> (u32, [usize; ORDERS]) {
     let mut counts = [0; ORDERS];
-    let code = call!(rb_room, lower, as_ptr, frame, &mut counts);
+    let code = call!(rb_room, lower, as_ptr, frame.0, &mut counts);
     (code, counts)
 }
 
-pub fn tree_run(lower: &Lower<'_>, frame: usize) -> (u32, usize, usize) {
+pub fn tree_run(lower: &Lower<'_>, frame: FrameId) -> (u32, usize, usize) {
     let (mut offset, mut length) = (0, 0);
-    let code = call!(rb_tree_run, lower, as_ptr, frame, &mut offset, &mut length);
+    let code = call!(rb_tree_run, lower, as_ptr, frame.0, &mut offset, &mut length);
     (code, offset, length)
 }

@@ -3,7 +3,7 @@
 use core::fmt;
 
 use crate::error::{Error, Refusal, check};
-use crate::{HUGE_ORDER, ORDERS, ffi};
+use crate::{FrameId, HUGE_ORDER, HugeId, ORDERS, RowId, ffi};
 
 /// How a [`Lower`] finds its frames.
 #[derive(Clone, Copy, Debug, PartialEq, Eq)]
@@ -23,7 +23,7 @@ pub enum Init {
 #[derive(Clone, Copy, Debug, Default, PartialEq, Eq)]
 pub struct Got {
     /// The block's first frame.
-    pub frame: usize,
+    pub frame: FrameId,
     /// The entries visited, or from order 9 up the groups of them, with the last; 1 with a chosen frame.
     pub probes: usize,
 }
@@ -51,8 +51,8 @@ pub struct Recovered {
 /// The first faulty huge frame of a state, and why it is.
 #[derive(Clone, Copy, Debug, PartialEq, Eq)]
 pub struct Fault {
-    /// The huge frame's number.
-    pub huge: usize,
+    /// The huge frame.
+    pub huge: HugeId,
     /// Why it is faulty.
     pub reason: Reason,
 }
@@ -74,9 +74,32 @@ pub enum Reason {
 }
 
 impl Reason {
-    /// Document 01's number, 1 to 5.
+    /// Document 01's number, 1 to 5, which the audit in C answers.
+    ///
+    /// ```
+    /// assert_eq!(ravelbeam::Reason::WrongCount.number(), 4);
+    /// ```
     pub const fn number(self) -> u32 {
         self as u32
+    }
+}
+
+impl fmt::Display for Reason {
+    fn fmt(&self, f: &mut fmt::Formatter<'_>) -> fmt::Result {
+        let reason = match self {
+            Reason::PartialMark => "it has the mark, and is not whole",
+            Reason::BitUnderMark => "it has the mark, and a bit is set",
+            Reason::ClearPastEnd => "a bit past the last frame is clear",
+            Reason::WrongCount => "its count is not the number of its clear bits",
+            Reason::AbsentEntry => "it is absent, and its entry is not 0",
+        };
+        write!(f, "{reason} ({})", self.number())
+    }
+}
+
+impl fmt::Display for Fault {
+    fn fmt(&self, f: &mut fmt::Formatter<'_>) -> fmt::Result {
+        write!(f, "huge frame {}: {}", self.huge.0, self.reason)
     }
 }
 
@@ -106,7 +129,19 @@ impl<'a> Lower<'a> {
     /// [`rows_needed`](crate::rows_needed) rows and [`entries_needed`](crate::entries_needed) entries. What
     /// is lent beyond these is never touched.
     ///
-    /// Refused with 1, 2 and 3; and with 8 by [`Init::Recover`].
+    /// # Errors
+    ///
+    /// 1, 2 and 3; and 8 by [`Init::Recover`].
+    ///
+    /// ```
+    /// use ravelbeam::{Error, Init, Lower};
+    ///
+    /// let (mut rows, mut entries) = ([0; 16], [0; 2]);
+    /// let lower = Lower::new(1000, 2, Init::FreeAll, &mut rows, &mut entries)?;
+    /// assert_eq!(lower.stats().free_frames, 1000);
+    /// assert_eq!(Lower::new(1000, 3, Init::FreeAll, &mut rows, &mut entries).unwrap_err(), Error::Tree);
+    /// # Ok::<(), Error>(())
+    /// ```
     pub fn new(
         frames: usize,
         tree_huge: usize,
@@ -120,7 +155,7 @@ impl<'a> Lower<'a> {
             Init::AllocAll => check(ffi::reserve_all(&mut lower), ()),
             Init::Recover => lower.recover().map(|_| ()),
             // Frame 0 is below any number of frames, so that this is refused with 1 to 3 alone.
-            Init::None => lower.tree_run(0).map(|_| ()),
+            Init::None => lower.tree_run(FrameId(0)).map(|_| ()),
         }?;
         Ok(lower)
     }
@@ -129,10 +164,25 @@ impl<'a> Lower<'a> {
     /// tree of `start_row`, searched from that row on (document 01 has the order). A block of order 9 or more
     /// is held whole, by the mark. With a frame the start row is not looked at.
     ///
-    /// Refused with 4 where the order is above that of a tree; 5 where the start row, or the block at
-    /// `frame`, is not below the number of frames; 6 where `frame` is not aligned; 7 where there is no such
-    /// block, or the one at `frame` is not free; 8 where the search meets damage.
-    pub fn get(&mut self, start_row: usize, order: usize, frame: Option<usize>) -> Result<Got, Refusal> {
+    /// # Errors
+    ///
+    /// 4 where the order is above that of a tree; 5 where the start row's number times 64 is not below the
+    /// number of frames, or the block at `frame` ends past it; 6 where `frame` is not aligned; 7 where there
+    /// is no such block, or the one at `frame` is not all free; 8 where the search meets damage.
+    ///
+    /// ```
+    /// use ravelbeam::{Error, FrameId, Got, Init, Refusal, RowId, State};
+    ///
+    /// let mut state = State::<32, 4>::new();
+    /// let mut lower = state.start(2048, 4, Init::FreeAll)?;
+    /// assert_eq!(lower.get(RowId(3), 0, None), Ok(Got { frame: FrameId(192), probes: 1 }));
+    /// assert_eq!(lower.get(RowId(3), 9, None), Ok(Got { frame: FrameId(512), probes: 2 }));
+    /// assert_eq!(lower.get(RowId(0), 4, Some(FrameId(1024)))?.frame, FrameId(1024));
+    /// let refused = lower.get(RowId(0), 11, None);
+    /// assert_eq!(refused, Err(Refusal { error: Error::Memory, probes: 1 }));
+    /// # Ok::<(), Error>(())
+    /// ```
+    pub fn get(&mut self, start_row: RowId, order: usize, frame: Option<FrameId>) -> Result<Got, Refusal> {
         let (code, got) = match frame {
             Some(frame) => ffi::get_at(self, frame, order),
             None => ffi::get(self, start_row, order),
@@ -142,23 +192,62 @@ impl<'a> Lower<'a> {
 
     /// Gives the block of 2^`order` frames at `frame` back: one that a get took, or a part of it.
     ///
-    /// Refused with 4 where the order is above that of a tree; 5 where the block is not below the number of
-    /// frames; 6 where it is not aligned; 7 where it is not held, or from order 9 up not held whole; 8 where
-    /// a bit is set under a mark.
-    pub fn put(&mut self, frame: usize, order: usize) -> Result<(), Error> {
+    /// # Errors
+    ///
+    /// 4 where the order is above that of a tree; 5 where the block ends past the number of frames; 6 where
+    /// it is not aligned; 7 where not all of it is held, or from order 9 up not held whole; 8 where a bit is
+    /// set under a mark.
+    ///
+    /// ```
+    /// use ravelbeam::{Error, FrameId, Init, RowId, State};
+    ///
+    /// let mut state = State::<8, 1>::new();
+    /// let mut lower = state.start(512, 1, Init::FreeAll)?;
+    /// let huge = lower.get(RowId(0), 9, None)?.frame;
+    /// lower.put(huge, 8)?; // the first half of it
+    /// assert_eq!(lower.put(huge, 8), Err(Error::Memory)); // which is free now
+    /// assert_eq!(lower.put(huge, 9), Err(Error::Memory)); // and the whole is not held whole
+    /// lower.put(huge + FrameId(256), 8)?;
+    /// assert_eq!(lower.stats().free_huge, 1);
+    /// # Ok::<(), Error>(())
+    /// ```
+    pub fn put(&mut self, frame: FrameId, order: usize) -> Result<(), Error> {
         check(ffi::put(self, frame, order), ())
     }
 
     /// Whether all of the block of 2^`order` frames at `frame` are free.
     ///
-    /// Refused with 4 where the order is above that of a tree; 5 where the block is not below the number of
-    /// frames; 6 where it is not aligned.
-    pub fn is_free(&self, frame: usize, order: usize) -> Result<bool, Error> {
+    /// # Errors
+    ///
+    /// 4 where the order is above that of a tree; 5 where the block ends past the number of frames; 6 where
+    /// it is not aligned.
+    ///
+    /// ```
+    /// use ravelbeam::{Error, FrameId, Init, RowId, State};
+    ///
+    /// let mut state = State::<8, 1>::new();
+    /// let mut lower = state.start(512, 1, Init::FreeAll)?;
+    /// lower.get(RowId(0), 0, Some(FrameId(5)))?;
+    /// assert_eq!(lower.is_free(FrameId(0), 2), Ok(true));
+    /// assert_eq!(lower.is_free(FrameId(4), 2), Ok(false));
+    /// # Ok::<(), Error>(())
+    /// ```
+    pub fn is_free(&self, frame: FrameId, order: usize) -> Result<bool, Error> {
         let (code, yes) = ffi::is_free(self, frame, order);
         check(code, yes)
     }
 
     /// How much is free in all.
+    ///
+    /// ```
+    /// use ravelbeam::{Error, Init, RowId, State, Stats};
+    ///
+    /// let mut state = State::<16, 2>::new();
+    /// let mut lower = state.start(1024, 1, Init::FreeAll)?;
+    /// lower.get(RowId(0), 0, None)?;
+    /// assert_eq!(lower.stats(), Stats { free_frames: 1023, free_huge: 1, free_trees: 1 });
+    /// # Ok::<(), Error>(())
+    /// ```
     pub fn stats(&self) -> Stats {
         let (code, stats) = ffi::stats(self);
         debug_assert_eq!(code, 0);
@@ -168,21 +257,55 @@ impl<'a> Lower<'a> {
     /// How much is free at a frame: of itself (order 0), its huge frame (9) or its tree
     /// ([`tree_order`](Lower::tree_order)). At any other order all three are 0.
     ///
-    /// Refused with 5 where the frame is not below the number of frames.
-    pub fn stats_at(&self, frame: usize, order: usize) -> Result<Stats, Error> {
+    /// # Errors
+    ///
+    /// 5 where the frame is not below the number of frames.
+    ///
+    /// ```
+    /// use ravelbeam::{Error, FrameId, Init, State};
+    ///
+    /// let mut state = State::<32, 4>::new();
+    /// let lower = state.start(2048, 4, Init::FreeAll)?;
+    /// assert_eq!(lower.stats_at(FrameId(700), 0)?.free_frames, 1);
+    /// assert_eq!(lower.stats_at(FrameId(700), 9)?.free_frames, 512);
+    /// assert_eq!(lower.stats_at(FrameId(700), lower.tree_order())?.free_trees, 1);
+    /// # Ok::<(), Error>(())
+    /// ```
+    pub fn stats_at(&self, frame: FrameId, order: usize) -> Result<Stats, Error> {
         let (code, stats) = ffi::stats_at(self, frame, order);
         check(code, stats)
     }
 
     /// Puts wrong counts right by the bits, and clears the bits under a mark.
     ///
-    /// Refused with 8 where a huge frame has reason 1, 3 or 5 of an [`audit`](Lower::audit).
+    /// # Errors
+    ///
+    /// 8 where a huge frame has reason 1, 3 or 5 of an [`audit`](Lower::audit).
+    ///
+    /// ```
+    /// use ravelbeam::{Error, Init, Lower, Recovered};
+    ///
+    /// let (mut rows, mut entries) = ([1, 0, 0, 0, 0, 0, 0, 0], [512]);
+    /// let mut lower = Lower::new(512, 1, Init::None, &mut rows, &mut entries)?;
+    /// assert_eq!(lower.recover(), Ok(Recovered { entries: 1, bitfields: 0 }));
+    /// assert_eq!(entries, [511]);
+    /// # Ok::<(), Error>(())
+    /// ```
     pub fn recover(&mut self) -> Result<Recovered, Error> {
         let (code, recovered) = ffi::recover(self);
         check(code, recovered)
     }
 
     /// The first faulty huge frame, or none where the state is consistent.
+    ///
+    /// ```
+    /// use ravelbeam::{Error, Fault, HugeId, Init, Lower, Reason};
+    ///
+    /// let (mut rows, mut entries) = ([0; 16], [512, 500]);
+    /// let lower = Lower::new(1024, 2, Init::None, &mut rows, &mut entries)?;
+    /// assert_eq!(lower.audit(), Some(Fault { huge: HugeId(1), reason: Reason::WrongCount }));
+    /// # Ok::<(), Error>(())
+    /// ```
     pub fn audit(&self) -> Option<Fault> {
         let (code, huge, reason) = ffi::audit(self);
         debug_assert_eq!(code, 0);
@@ -201,42 +324,99 @@ impl<'a> Lower<'a> {
     /// How many blocks of each order the entries of a frame's tree promise: below order 9 each free count's
     /// whole blocks, wherever the free frames lie, and from 9 up the aligned groups that are free whole.
     ///
-    /// Refused with 5 where the frame is not below the number of frames.
-    pub fn room(&self, frame: usize) -> Result<[usize; ORDERS], Error> {
+    /// # Errors
+    ///
+    /// 5 where the frame is not below the number of frames.
+    ///
+    /// ```
+    /// use ravelbeam::{Error, FrameId, Init, State};
+    ///
+    /// let mut state = State::<16, 2>::new();
+    /// let room = state.start(1024, 2, Init::FreeAll)?.room(FrameId(0))?;
+    /// assert_eq!(room[..12], [1024, 512, 256, 128, 64, 32, 16, 8, 4, 2, 1, 0]);
+    /// # Ok::<(), Error>(())
+    /// ```
+    pub fn room(&self, frame: FrameId) -> Result<[usize; ORDERS], Error> {
         let (code, counts) = ffi::room(self, frame);
         check(code, counts)
     }
 
     /// The entries of a frame's tree.
     ///
-    /// Refused with 5 where the frame is not below the number of frames.
-    pub fn tree_run(&self, frame: usize) -> Result<&[u16], Error> {
+    /// # Errors
+    ///
+    /// 5 where the frame is not below the number of frames.
+    ///
+    /// ```
+    /// use ravelbeam::{Error, FrameId, Init, State};
+    ///
+    /// let mut state = State::<24, 4>::new();
+    /// let lower = state.start(1500, 2, Init::FreeAll)?;
+    /// assert_eq!(lower.tree_run(FrameId(1024)), Ok(&[476, 0][..]));
+    /// # Ok::<(), Error>(())
+    /// ```
+    pub fn tree_run(&self, frame: FrameId) -> Result<&[u16], Error> {
         let (code, offset, length) = ffi::tree_run(self, frame);
         check(code, ())?;
         Ok(&self.entries[offset..][..length])
     }
 
     /// The number of frames.
+    ///
+    /// ```
+    /// # use ravelbeam::{Error, Init, State};
+    /// let mut state = State::<24, 4>::new();
+    /// assert_eq!(state.start(1500, 2, Init::FreeAll)?.frames(), 1500);
+    /// # Ok::<(), Error>(())
+    /// ```
     pub const fn frames(&self) -> usize {
         self.frames
     }
 
     /// The huge frames of a tree.
+    ///
+    /// ```
+    /// # use ravelbeam::{Error, Init, State};
+    /// let mut state = State::<24, 4>::new();
+    /// assert_eq!(state.start(1500, 2, Init::FreeAll)?.tree_huge(), 2);
+    /// # Ok::<(), Error>(())
+    /// ```
     pub const fn tree_huge(&self) -> usize {
         self.tree_huge
     }
 
     /// The order of a whole tree: the highest that a block can have.
+    ///
+    /// ```
+    /// # use ravelbeam::{Error, Init, State};
+    /// let mut state = State::<24, 4>::new();
+    /// assert_eq!(state.start(1500, 2, Init::FreeAll)?.tree_order(), 10);
+    /// # Ok::<(), Error>(())
+    /// ```
     pub const fn tree_order(&self) -> usize {
         HUGE_ORDER + self.tree_huge.trailing_zeros() as usize
     }
 
     /// The rows, all that are lent. Frame f is bit f mod 64 of row f div 64, and a set bit is a held frame.
+    ///
+    /// ```
+    /// # use ravelbeam::{Error, Init, State};
+    /// let mut state = State::<24, 4>::new();
+    /// assert_eq!(state.start(1500, 2, Init::FreeAll)?.rows()[23], !0 << (1500 - 23 * 64));
+    /// # Ok::<(), Error>(())
+    /// ```
     pub const fn rows(&self) -> &[u64] {
         self.rows
     }
 
     /// The entries, all that are lent: each huge frame's free count, or [`MARK`](crate::MARK).
+    ///
+    /// ```
+    /// # use ravelbeam::{Error, Init, State};
+    /// let mut state = State::<24, 4>::new();
+    /// assert_eq!(state.start(1500, 2, Init::FreeAll)?.entries(), [512, 512, 476, 0]);
+    /// # Ok::<(), Error>(())
+    /// ```
     pub const fn entries(&self) -> &[u16] {
         self.entries
     }

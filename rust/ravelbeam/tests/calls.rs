@@ -2,14 +2,14 @@
 //! can be read off.
 
 use ravelbeam::{
-    Error, Fault, Got, HUGE_FRAMES, HUGE_ORDER, Init, Lower, MARK, MAX_FRAMES, ORDERS, Reason, Recovered,
-    Refusal, Stats, entries_needed, rows_needed,
+    Error, Fault, FrameId, Got, HUGE_FRAMES, HUGE_ORDER, HugeId, Init, Lower, MARK, MAX_FRAMES, ORDERS,
+    Reason, Recovered, Refusal, RowId, Stats, entries_needed, rows_needed,
 };
 
 const TREES: [usize; 10] = [1, 2, 4, 8, 16, 32, 64, 128, 256, 512];
 
 fn got(frame: usize, probes: usize) -> Result<Got, Refusal> {
-    Ok(Got { frame, probes })
+    Ok(Got { frame: FrameId(frame), probes })
 }
 
 fn refused(error: Error, probes: usize) -> Result<Got, Refusal> {
@@ -25,17 +25,17 @@ fn the_lines_of_document_01() {
     let (mut rows, mut entries) = ([0; 16], [0; 2]);
     let mut lower = Lower::new(1000, 2, Init::FreeAll, &mut rows, &mut entries).unwrap();
     assert_eq!(lower.stats(), stats(1000, 1, 0));
-    assert_eq!(lower.get(0, 0, None), got(0, 1));
-    assert_eq!(lower.get(3, 0, None), got(192, 1));
-    assert_eq!(lower.get(8, 9, None), refused(Error::Memory, 2));
-    assert_eq!(lower.put(0, 0), Ok(()));
-    assert_eq!(lower.put(192, 0), Ok(()));
-    assert_eq!(lower.get(8, 9, None), got(0, 2));
-    assert_eq!(lower.put(64, 6), Ok(()));
-    assert_eq!(lower.stats_at(64, 9), Ok(stats(64, 0, 0)));
-    assert_eq!(lower.get(9, 6, None), got(576, 1));
-    assert_eq!(lower.put(64, 6), Err(Error::Memory));
-    assert_eq!(lower.put(1000, 0), Err(Error::Range));
+    assert_eq!(lower.get(RowId(0), 0, None), got(0, 1));
+    assert_eq!(lower.get(RowId(3), 0, None), got(192, 1));
+    assert_eq!(lower.get(RowId(8), 9, None), refused(Error::Memory, 2));
+    assert_eq!(lower.put(FrameId(0), 0), Ok(()));
+    assert_eq!(lower.put(FrameId(192), 0), Ok(()));
+    assert_eq!(lower.get(RowId(8), 9, None), got(0, 2));
+    assert_eq!(lower.put(FrameId(64), 6), Ok(()));
+    assert_eq!(lower.stats_at(FrameId(64), 9), Ok(stats(64, 0, 0)));
+    assert_eq!(lower.get(RowId(9), 6, None), got(576, 1));
+    assert_eq!(lower.put(FrameId(64), 6), Err(Error::Memory));
+    assert_eq!(lower.put(FrameId(1000), 0), Err(Error::Range));
     assert_eq!(lower.audit(), None);
     assert_eq!(lower.stats(), stats(488, 0, 0));
 }
@@ -49,7 +49,7 @@ fn the_puts_of_document_01s_table() {
     ] {
         let (mut rows, mut entries) = ([row; 8], [entry]);
         let mut lower = Lower::new(512, 1, Init::None, &mut rows, &mut entries).unwrap();
-        assert_eq!(lower.put(0, order), answer);
+        assert_eq!(lower.put(FrameId(0), order), answer);
         assert_eq!(entries, [after]);
     }
 }
@@ -122,15 +122,15 @@ fn whole_trees_of_every_size() {
         assert_eq!(lower.stats(), stats(2 * tree, 2 * tree_huge, 2));
         // At T = 1 the rule of order 9 comes first, which knows no trees.
         let whole = stats(tree, tree_huge, (tree_huge > 1) as usize);
-        assert_eq!(lower.stats_at(tree, top), Ok(whole));
+        assert_eq!(lower.stats_at(FrameId(tree), top), Ok(whole));
 
-        assert_eq!(lower.get(tree / 64, top, None), got(tree, 1));
-        assert_eq!(lower.get(tree / 64, 0, None), refused(Error::Memory, tree_huge));
-        assert_eq!((lower.is_free(tree, 0), lower.is_free(0, top)), (Ok(false), Ok(true)));
-        assert_eq!(lower.tree_run(tree), Ok(&vec![MARK; tree_huge][..]));
+        assert_eq!(lower.get(RowId(tree / 64), top, None), got(tree, 1));
+        assert_eq!(lower.get(RowId(tree / 64), 0, None), refused(Error::Memory, tree_huge));
+        assert_eq!((lower.is_free(FrameId(tree), 0), lower.is_free(FrameId(0), top)), (Ok(false), Ok(true)));
+        assert_eq!(lower.tree_run(FrameId(tree)), Ok(&vec![MARK; tree_huge][..]));
         assert_eq!(lower.stats(), stats(tree, tree_huge, 1));
-        assert_eq!(lower.put(tree, top), Ok(()));
-        assert_eq!(lower.stats_at(tree, top), Ok(whole));
+        assert_eq!(lower.put(FrameId(tree), top), Ok(()));
+        assert_eq!(lower.stats_at(FrameId(tree), top), Ok(whole));
     }
 }
 
@@ -139,18 +139,18 @@ fn gets_and_their_probes() {
     let (mut rows, mut entries) = ([0; 32], [0; 4]);
     let mut lower = Lower::new(2048, 4, Init::FreeAll, &mut rows, &mut entries).unwrap();
     // Held: huge frame 1, and frame 192 in huge frame 0.
-    assert_eq!(lower.get(8, 9, None), got(512, 1));
-    assert_eq!(lower.get(3, 0, None), got(192, 1));
+    assert_eq!(lower.get(RowId(8), 9, None), got(512, 1));
+    assert_eq!(lower.get(RowId(3), 0, None), got(192, 1));
     // From row 13 on: huge frame 1 has nothing, and in the next one it goes on from row 13 mod 8.
-    assert_eq!(lower.get(13, 0, None), got(1024 + 5 * 64, 2));
+    assert_eq!(lower.get(RowId(13), 0, None), got(1024 + 5 * 64, 2));
     // Order 7 begins at row 0, wherever the start row is.
-    assert_eq!(lower.get(31, 7, None), got(1536, 1));
+    assert_eq!(lower.get(RowId(31), 7, None), got(1536, 1));
     // With a frame the start row is not looked at.
-    assert_eq!(lower.get(usize::MAX, 2, Some(196)), got(196, 1));
-    assert_eq!(lower.get(0, 2, Some(192)), refused(Error::Memory, 1));
-    assert_eq!(lower.get(0, 9, Some(512)), refused(Error::Memory, 1));
-    assert_eq!(lower.get(0, 9, None), refused(Error::Memory, 4));
-    assert_eq!(lower.get(0, 10, None), refused(Error::Memory, 2));
+    assert_eq!(lower.get(RowId(usize::MAX), 2, Some(FrameId(196))), got(196, 1));
+    assert_eq!(lower.get(RowId(0), 2, Some(FrameId(192))), refused(Error::Memory, 1));
+    assert_eq!(lower.get(RowId(0), 9, Some(FrameId(512))), refused(Error::Memory, 1));
+    assert_eq!(lower.get(RowId(0), 9, None), refused(Error::Memory, 4));
+    assert_eq!(lower.get(RowId(0), 10, None), refused(Error::Memory, 2));
     assert_eq!(lower.entries(), [507, MARK, 511, 384]);
     assert_eq!(lower.audit(), None);
 }
@@ -159,11 +159,11 @@ fn gets_and_their_probes() {
 fn a_huge_frame_given_back_in_parts() {
     let (mut rows, mut entries) = ([0; 8], [0]);
     let mut lower = Lower::new(512, 1, Init::FreeAll, &mut rows, &mut entries).unwrap();
-    assert_eq!(lower.get(0, 9, None), got(0, 1));
+    assert_eq!(lower.get(RowId(0), 9, None), got(0, 1));
     for frame in 0..512 {
-        assert_eq!(lower.is_free(frame, 0), Ok(false));
-        assert_eq!(lower.put(frame, 0), Ok(()));
-        assert_eq!(lower.is_free(frame, 0), Ok(true));
+        assert_eq!(lower.is_free(FrameId(frame), 0), Ok(false));
+        assert_eq!(lower.put(FrameId(frame), 0), Ok(()));
+        assert_eq!(lower.is_free(FrameId(frame), 0), Ok(true));
         assert_eq!(lower.entries(), [frame as u16 + 1]);
     }
     assert_eq!(lower.rows(), [0; 8]);
@@ -173,21 +173,21 @@ fn a_huge_frame_given_back_in_parts() {
 fn stats_at_a_frame_and_room() {
     let (mut rows, mut entries) = partial(Init::FreeAll);
     let mut lower = Lower::new(700, 4, Init::None, &mut rows, &mut entries).unwrap();
-    assert_eq!(lower.get(0, 3, Some(8)), got(8, 1));
-    assert_eq!(lower.stats_at(8, 0), Ok(stats(0, 0, 0)));
-    assert_eq!(lower.stats_at(16, 0), Ok(stats(1, 0, 0)));
-    assert_eq!(lower.stats_at(8, HUGE_ORDER), Ok(stats(504, 0, 0)));
-    assert_eq!(lower.stats_at(8, 11), Ok(stats(692, 0, 0)));
-    assert_eq!(lower.stats_at(8, 5), Ok(stats(0, 0, 0)));
+    assert_eq!(lower.get(RowId(0), 3, Some(FrameId(8))), got(8, 1));
+    assert_eq!(lower.stats_at(FrameId(8), 0), Ok(stats(0, 0, 0)));
+    assert_eq!(lower.stats_at(FrameId(16), 0), Ok(stats(1, 0, 0)));
+    assert_eq!(lower.stats_at(FrameId(8), HUGE_ORDER), Ok(stats(504, 0, 0)));
+    assert_eq!(lower.stats_at(FrameId(8), 11), Ok(stats(692, 0, 0)));
+    assert_eq!(lower.stats_at(FrameId(8), 5), Ok(stats(0, 0, 0)));
     // 504 and 188 free frames.
     let mut room = [0; ORDERS];
     room[..9].copy_from_slice(&[692, 346, 173, 86, 42, 20, 9, 4, 1]);
-    assert_eq!(lower.room(699), Ok(room));
-    assert_eq!(lower.put(8, 3), Ok(()));
+    assert_eq!(lower.room(FrameId(699)), Ok(room));
+    assert_eq!(lower.put(FrameId(8), 3), Ok(()));
     (room[..9]).copy_from_slice(&[700, 350, 175, 87, 43, 21, 10, 5, 2]);
     room[9] = 1;
-    assert_eq!(lower.room(0), Ok(room));
-    assert_eq!(lower.tree_run(0), Ok(&[512, 188, 0, 0][..]));
+    assert_eq!(lower.room(FrameId(0)), Ok(room));
+    assert_eq!(lower.tree_run(FrameId(0)), Ok(&[512, 188, 0, 0][..]));
 }
 
 #[test]
@@ -212,7 +212,9 @@ fn audit_and_recover() {
         let (mut others, damaged) = ((rows, entries), (rows, entries));
 
         let mut lower = Lower::new(700, 4, Init::None, &mut rows, &mut entries).unwrap();
-        assert_eq!(lower.audit(), Some(Fault { huge, reason }));
+        assert_eq!(lower.audit(), Some(Fault { huge: HugeId(huge), reason }));
+        assert!(reason.to_string().ends_with(&format!(" ({number})")));
+        assert_eq!(lower.audit().unwrap().to_string(), format!("huge frame {huge}: {reason}"));
         assert_eq!(lower.recover(), answer);
         assert_eq!(lower.audit().is_none(), answer.is_ok());
         assert_eq!((rows, entries) != damaged, answer.is_ok());

@@ -1,7 +1,7 @@
 //! Each refusal of the lower level by its number, in the numbers' order, and that it leaves all that was
 //! lent.
 
-use ravelbeam::{Error, Got, Init, Lower, MARK, MAX_FRAMES, Refusal};
+use ravelbeam::{Error, FrameId, Got, Init, Lower, MARK, MAX_FRAMES, Refusal, RowId};
 
 const ALL: [Error; 8] = [
     Error::Frames,
@@ -23,6 +23,10 @@ fn numbers_and_words() {
         assert_eq!(Error::from(refusal), error);
         assert_eq!(refusal.to_string(), format!("{error}, probes: 4"));
     }
+    assert_eq!(
+        Error::Memory.to_string(),
+        "get: no such block is free; put: not all of it is held, or from order 9 up not held whole (7)"
+    );
 }
 
 #[test]
@@ -76,9 +80,12 @@ fn blocks_are_refused_with_4_to_6() {
         (1, 1, Error::Alignment),
         (256, 10, Error::Alignment),
     ] {
-        assert_eq!(refused(lower, |lower| lower.get(0, order, Some(frame))), probes(error, 0));
-        assert_eq!(refused(lower, |lower| lower.put(frame, order)), Err(error));
-        assert_eq!(refused(lower, |lower| lower.is_free(frame, order)), Err(error));
+        assert_eq!(
+            refused(lower, |lower| lower.get(RowId(0), order, Some(FrameId(frame)))),
+            probes(error, 0)
+        );
+        assert_eq!(refused(lower, |lower| lower.put(FrameId(frame), order)), Err(error));
+        assert_eq!(refused(lower, |lower| lower.is_free(FrameId(frame), order)), Err(error));
     }
     for (row, order, error) in [
         (0, 11, Error::Order),
@@ -87,14 +94,17 @@ fn blocks_are_refused_with_4_to_6() {
         (1 << 58, 10, Error::Range),
         (usize::MAX, 0, Error::Range),
     ] {
-        assert_eq!(refused(lower, |lower| lower.get(row, order, None)), probes(error, 0));
+        assert_eq!(refused(lower, |lower| lower.get(RowId(row), order, None)), probes(error, 0));
     }
     for frame in [1500, usize::MAX] {
-        assert_eq!(refused(lower, |lower| lower.stats_at(frame, 0)), Err(Error::Range));
-        assert_eq!(refused(lower, |lower| lower.room(frame)), Err(Error::Range));
-        assert_eq!(refused(lower, |lower| lower.tree_run(frame).map(<[u16]>::len)), Err(Error::Range));
+        assert_eq!(refused(lower, |lower| lower.stats_at(FrameId(frame), 0)), Err(Error::Range));
+        assert_eq!(refused(lower, |lower| lower.room(FrameId(frame))), Err(Error::Range));
+        assert_eq!(
+            refused(lower, |lower| lower.tree_run(FrameId(frame)).map(<[u16]>::len)),
+            Err(Error::Range)
+        );
     }
-    assert_eq!(lower.get(23, 0, None), Ok(Got { frame: 23 * 64, probes: 1 }));
+    assert_eq!(lower.get(RowId(23), 0, None), Ok(Got { frame: FrameId(23 * 64), probes: 1 }));
 }
 
 #[test]
@@ -102,18 +112,18 @@ fn blocks_are_refused_with_7() {
     let (mut rows, mut entries) = ([0; 16], [0; 2]);
     let lower = &mut Lower::new(1024, 2, Init::FreeAll, &mut rows, &mut entries).unwrap();
     for (frame, order) in [(0, 0), (0, 8), (0, 9), (0, 10)] {
-        assert_eq!(refused(lower, |lower| lower.put(frame, order)), Err(Error::Memory));
+        assert_eq!(refused(lower, |lower| lower.put(FrameId(frame), order)), Err(Error::Memory));
     }
-    lower.get(0, 0, Some(256)).unwrap();
-    lower.get(0, 8, Some(512)).unwrap();
-    assert_eq!(refused(lower, |lower| lower.get(0, 0, Some(256))), probes(Error::Memory, 1));
-    assert_eq!(refused(lower, |lower| lower.get(0, 9, Some(0))), probes(Error::Memory, 1));
-    assert_eq!(refused(lower, |lower| lower.get(0, 9, None)), probes(Error::Memory, 2));
-    assert_eq!(refused(lower, |lower| lower.get(0, 10, None)), probes(Error::Memory, 1));
+    lower.get(RowId(0), 0, Some(FrameId(256))).unwrap();
+    lower.get(RowId(0), 8, Some(FrameId(512))).unwrap();
+    assert_eq!(refused(lower, |lower| lower.get(RowId(0), 0, Some(FrameId(256)))), probes(Error::Memory, 1));
+    assert_eq!(refused(lower, |lower| lower.get(RowId(0), 9, Some(FrameId(0)))), probes(Error::Memory, 1));
+    assert_eq!(refused(lower, |lower| lower.get(RowId(0), 9, None)), probes(Error::Memory, 2));
+    assert_eq!(refused(lower, |lower| lower.get(RowId(0), 10, None)), probes(Error::Memory, 1));
     // Half of the block is held; 512 frames held singly are not held whole.
-    assert_eq!(refused(lower, |lower| lower.put(256, 1)), Err(Error::Memory));
-    lower.get(0, 8, Some(768)).unwrap();
-    assert_eq!(refused(lower, |lower| lower.put(512, 9)), Err(Error::Memory));
+    assert_eq!(refused(lower, |lower| lower.put(FrameId(256), 1)), Err(Error::Memory));
+    lower.get(RowId(0), 8, Some(FrameId(768))).unwrap();
+    assert_eq!(refused(lower, |lower| lower.put(FrameId(512), 9)), Err(Error::Memory));
 }
 
 /// A refused call on a tree of four huge frames, of which three are absent.
@@ -131,22 +141,22 @@ fn on_damage<T>(
 fn damage_is_refused_with_8() {
     let full = [u64::MAX; 8];
     // An absent entry that counts free frames.
-    let answer = on_damage(512, full, [0, 1, 0, 0], |lower| lower.get(0, 0, None));
+    let answer = on_damage(512, full, [0, 1, 0, 0], |lower| lower.get(RowId(0), 0, None));
     assert_eq!(answer, probes(Error::Damage, 2));
     // A count above 512, and no such block.
-    let answer = on_damage(512, full, [513, 0, 0, 0], |lower| lower.get(0, 0, None));
+    let answer = on_damage(512, full, [513, 0, 0, 0], |lower| lower.get(RowId(0), 0, None));
     assert_eq!(answer, probes(Error::Damage, 1));
-    let answer = on_damage(512, full, [513, 0, 0, 0], |lower| lower.get(0, 0, Some(0)));
+    let answer = on_damage(512, full, [513, 0, 0, 0], |lower| lower.get(RowId(0), 0, Some(FrameId(0))));
     assert_eq!(answer, probes(Error::Damage, 1));
     // A block that ends past the last frame.
     let mut frame_500 = full;
     frame_500[7] ^= 1 << 52;
-    let answer = on_damage(500, frame_500, [1, 0, 0, 0], |lower| lower.get(0, 0, None));
+    let answer = on_damage(500, frame_500, [1, 0, 0, 0], |lower| lower.get(RowId(0), 0, None));
     assert_eq!(answer, probes(Error::Damage, 1));
-    let answer = on_damage(512, [0; 8], [512, 512, 0, 0], |lower| lower.get(0, 10, None));
+    let answer = on_damage(512, [0; 8], [512, 512, 0, 0], |lower| lower.get(RowId(0), 10, None));
     assert_eq!(answer, probes(Error::Damage, 1));
     // A bit that is set under a mark.
-    let answer = on_damage(512, full, [MARK, 0, 0, 0], |lower| lower.put(0, 0));
+    let answer = on_damage(512, full, [MARK, 0, 0, 0], |lower| lower.put(FrameId(0), 0));
     assert_eq!(answer, Err(Error::Damage));
     // A recover that would have to guess: an absent entry that is not 0.
     let answer = on_damage(512, full, [0, 1, 0, 0], |lower| lower.recover());

@@ -3,14 +3,9 @@
 //! refused with 7. The painter's class draws in huge frames, the log's takes single frames and small blocks.
 
 mod plain;
-// Not all of its numbers are of use here.
-#[allow(dead_code)]
-#[path = "../../../oracle/shared/random.rs"]
-mod random;
 
-use plain::Held;
-use random::Random;
-use ravelbeam::{BITFIELD_ROW, Error, HUGE_FRAMES, HUGE_ORDER, Init, Lower, entries_needed, rows_needed};
+use plain::{Held, Random};
+use ravelbeam::{Error, FrameId, HUGE_FRAMES, HUGE_ORDER, Init, Lower, RowId, entries_needed, rows_needed};
 
 const LOG: usize = 0;
 const PAINTER: usize = 1;
@@ -26,7 +21,7 @@ struct Tree {
 /// The tree that a class has reserved: the row of its last block there, and the free frames that are its own.
 #[derive(Clone, Copy, Debug, PartialEq)]
 struct Reservation {
-    row: usize,
+    row: RowId,
     free: usize,
 }
 
@@ -39,17 +34,17 @@ struct Trees<'a> {
 impl<'a> Trees<'a> {
     fn new(lower: Lower<'a>) -> Self {
         let starts = (0..lower.frames()).step_by(1 << lower.tree_order());
-        let free = |start| lower.stats_at(start, lower.tree_order()).unwrap().free_frames;
+        let free = |start| lower.stats_at(FrameId(start), lower.tree_order()).unwrap().free_frames;
         let trees = starts.map(|start| Tree { free: free(start), reserved: false }).collect();
         Trees { lower, trees, locals: [None; CLASSES] }
     }
 
-    fn tree_of(&self, row: usize) -> usize {
-        (row * BITFIELD_ROW) >> self.lower.tree_order()
+    fn tree_of(&self, row: RowId) -> usize {
+        row.as_frame().0 >> self.lower.tree_order()
     }
 
-    fn row_of(&self, tree: usize) -> usize {
-        (tree << self.lower.tree_order()) / BITFIELD_ROW
+    fn row_of(&self, tree: usize) -> RowId {
+        FrameId(tree << self.lower.tree_order()).as_row()
     }
 
     /// The tree that a class has reserved.
@@ -57,7 +52,7 @@ impl<'a> Trees<'a> {
         self.locals[class].map(|local| self.tree_of(local.row))
     }
 
-    fn get(&mut self, class: usize, order: usize) -> Result<usize, Error> {
+    fn get(&mut self, class: usize, order: usize) -> Result<FrameId, Error> {
         let start = self.reserved(class).unwrap_or(class * self.trees.len() / CLASSES);
         match self.get_local(class, order) {
             Err(Error::Memory) => {}
@@ -71,7 +66,7 @@ impl<'a> Trees<'a> {
     }
 
     /// A block of the tree that a class has reserved, to whose free frames those count that others gave back.
-    fn get_local(&mut self, class: usize, order: usize) -> Result<usize, Error> {
+    fn get_local(&mut self, class: usize, order: usize) -> Result<FrameId, Error> {
         let Some(Reservation { row, free }) = self.locals[class] else { return Err(Error::Memory) };
         let tree = self.tree_of(row);
         let free = free + std::mem::take(&mut self.trees[tree].free);
@@ -80,12 +75,12 @@ impl<'a> Trees<'a> {
             return Err(Error::Memory);
         }
         let frame = self.lower.get(row, order, None)?.frame;
-        self.locals[class] = Some(Reservation { row: frame / BITFIELD_ROW, free: free - (1 << order) });
+        self.locals[class] = Some(Reservation { row: frame.as_row(), free: free - (1 << order) });
         Ok(frame)
     }
 
     /// A block of the nearest tree that is nobody's and has one; it is reserved instead of the old tree.
-    fn search_and_reserve(&mut self, class: usize, order: usize, start: usize) -> Result<usize, Error> {
+    fn search_and_reserve(&mut self, class: usize, order: usize, start: usize) -> Result<FrameId, Error> {
         for i in 0..self.trees.len() {
             // Alternating between before and after the start.
             let offset = if i % 2 == 0 { i / 2 } else { self.trees.len() - i.div_ceil(2) };
@@ -98,7 +93,7 @@ impl<'a> Trees<'a> {
                 Ok(got) => {
                     self.unreserve(class);
                     self.trees[tree] = Tree { free: 0, reserved: true };
-                    let row = got.frame / BITFIELD_ROW;
+                    let row = got.frame.as_row();
                     self.locals[class] = Some(Reservation { row, free: free - (1 << order) });
                     return Ok(got.frame);
                 }
@@ -109,9 +104,9 @@ impl<'a> Trees<'a> {
         Err(Error::Memory)
     }
 
-    fn put(&mut self, class: usize, frame: usize, order: usize) -> Result<(), Error> {
+    fn put(&mut self, class: usize, frame: FrameId, order: usize) -> Result<(), Error> {
         self.lower.put(frame, order)?;
-        let tree = self.tree_of(frame / BITFIELD_ROW);
+        let tree = self.tree_of(frame.as_row());
         let own = self.reserved(class) == Some(tree);
         match &mut self.locals[class] {
             Some(local) if own => local.free += 1 << order,
@@ -136,7 +131,8 @@ impl<'a> Trees<'a> {
             counts[self.tree_of(*row)] += free;
         }
         for (tree, count) in counts.iter().enumerate() {
-            let stats = self.lower.stats_at(tree << self.lower.tree_order(), self.lower.tree_order());
+            let stats =
+                self.lower.stats_at(FrameId(tree << self.lower.tree_order()), self.lower.tree_order());
             assert_eq!(stats.unwrap().free_frames, *count);
         }
         assert_eq!(self.lower.stats().free_frames, counts.iter().sum());
@@ -148,19 +144,19 @@ fn the_painter_and_the_log_keep_apart() {
     let (mut rows, mut entries) = ([0; rows_needed(16384)], [0; entries_needed(16384, 4)]);
     let mut level = Trees::new(Lower::new(16384, 4, Init::FreeAll, &mut rows, &mut entries).unwrap());
     for note in 0..100 {
-        assert_eq!(level.get(LOG, 0), Ok(note), "the log goes on in its row, and then in the next");
+        assert_eq!(level.get(LOG, 0), Ok(FrameId(note)), "the log goes on in its row, and then in the next");
         if note % 25 == 0 {
-            assert_eq!(level.get(PAINTER, HUGE_ORDER), Ok(4 * 2048 + 512 * (note / 25)));
+            assert_eq!(level.get(PAINTER, HUGE_ORDER), Ok(FrameId(4 * 2048 + 512 * (note / 25))));
         }
     }
     assert_eq!((level.reserved(LOG), level.reserved(PAINTER)), (Some(0), Some(4)));
     // The painter's tree is full: it goes on to the nearest that is nobody's, and to the log's at the end.
-    let drawn: Vec<usize> = std::iter::from_fn(|| level.get(PAINTER, HUGE_ORDER).ok()).collect();
-    let trees: Vec<usize> = drawn.iter().map(|frame| frame / 2048).collect();
+    let drawn: Vec<FrameId> = std::iter::from_fn(|| level.get(PAINTER, HUGE_ORDER).ok()).collect();
+    let trees: Vec<usize> = drawn.iter().map(|frame| frame.0 / 2048).collect();
     assert_eq!(trees.chunks(4).map(|four| four[0]).collect::<Vec<_>>(), [3, 2, 1, 7, 6, 5, 0]);
-    assert_eq!(drawn[24..], [512, 1024, 1536]);
+    assert_eq!(drawn[24..], [512, 1024, 1536].map(FrameId));
     assert_eq!(level.get(PAINTER, HUGE_ORDER), Err(Error::Memory));
-    assert_eq!(level.get(LOG, 0), Ok(100));
+    assert_eq!(level.get(LOG, 0), Ok(FrameId(100)));
     level.validate();
 }
 
@@ -169,7 +165,7 @@ fn the_painter_and_the_log_keep_apart() {
 fn day(frames: usize, tree_huge: usize, random: &mut Random) -> [usize; 3] {
     let (mut rows, mut entries) = (vec![0; rows_needed(frames)], vec![0; entries_needed(frames, tree_huge)]);
     let lower = Lower::new(frames, tree_huge, Init::FreeAll, &mut rows, &mut entries).unwrap();
-    let huge_orders = (lower.tree_order() - HUGE_ORDER + 1) as u64;
+    let huge_orders = lower.tree_order() - HUGE_ORDER + 1;
     let mut held = Held::of(&lower);
     let mut level = Trees::new(lower);
     let before = (level.lower.rows().to_vec(), level.lower.entries().to_vec(), level.trees.clone());
@@ -178,15 +174,15 @@ fn day(frames: usize, tree_huge: usize, random: &mut Random) -> [usize; 3] {
     let [mut met, mut refused, mut moved] = [0; 3];
     for _ in 0..2000 {
         if random.below(5) < 2 && !blocks.is_empty() {
-            let (class, frame, order) = blocks.swap_remove(random.below(blocks.len() as u64) as usize);
+            let (class, frame, order) = blocks.swap_remove(random.below(blocks.len()));
             assert_eq!(level.put(class, frame, order), Ok(()));
             held.give(frame, order);
             continue;
         }
         let (class, order) = match random.below(10) {
             0 => (PAINTER, HUGE_ORDER),
-            1 => (PAINTER, HUGE_ORDER + random.below(huge_orders) as usize),
-            2..5 => (LOG, random.below(9) as usize),
+            1 => (PAINTER, HUGE_ORDER + random.below(huge_orders)),
+            2..5 => (LOG, random.below(9)),
             _ => (LOG, 0),
         };
         let tree = level.reserved(class);

@@ -1,14 +1,9 @@
 //! What is borrowed and returned leaves no trace: random runs, beside a plain model of what is held.
 
 mod plain;
-// Not all of its numbers are of use here.
-#[allow(dead_code)]
-#[path = "../../../oracle/shared/random.rs"]
-mod random;
 
-use plain::Held;
-use random::Random;
-use ravelbeam::{Error, Init, Lower, entries_needed, rows_needed};
+use plain::{Held, Random};
+use ravelbeam::{Error, FrameId, Init, Lower, RowId, entries_needed, rows_needed};
 
 /// A state, what is held of it by the model, and how many gets were done and refused.
 struct Run<'a> {
@@ -21,25 +16,25 @@ struct Run<'a> {
 
 impl Run<'_> {
     fn below(&mut self, end: usize) -> usize {
-        self.random.below(end as u64) as usize
+        self.random.below(end)
     }
 
     /// A get, of a low order more often than of a high one, in some tree or at some frame. The block, where
     /// there is one; it is refused exactly where the model has none.
-    fn get(&mut self) -> Option<(usize, usize)> {
+    fn get(&mut self) -> Option<(FrameId, usize)> {
         let (frames, top) = (self.lower.frames(), self.lower.tree_order());
         let order = 1 + self.below(top + 1);
         let order = self.below(order);
         let place = self.below(frames);
         let (tree, block) = (place >> top << top, place >> order << order);
         let (answer, start, length) = if self.below(3) == 0 && block + (1 << order) <= frames {
-            (self.lower.get(usize::MAX, order, Some(block)), block, 1 << order)
+            (self.lower.get(RowId(usize::MAX), order, Some(FrameId(block))), block, 1 << order)
         } else {
-            (self.lower.get(place / 64, order, None), tree, 1 << top)
+            (self.lower.get(RowId(place / 64), order, None), tree, 1 << top)
         };
         match answer {
             Ok(got) => {
-                assert!((start..start + length).contains(&got.frame));
+                assert!((start..start + length).contains(&got.frame.0));
                 self.held.take(got.frame, order);
                 self.done += 1;
                 Some((got.frame, order))
@@ -54,10 +49,10 @@ impl Run<'_> {
     }
 
     /// Gives a block back, whole or by its halves, which may go by their halves again.
-    fn put(&mut self, frame: usize, order: usize) {
+    fn put(&mut self, frame: FrameId, order: usize) {
         if order > 0 && self.below(4) == 0 {
             self.put(frame, order - 1);
-            return self.put(frame + (1 << (order - 1)), order - 1);
+            return self.put(frame + FrameId(1 << (order - 1)), order - 1);
         }
         assert_eq!(self.lower.is_free(frame, order), Ok(false));
         assert_eq!(self.lower.put(frame, order), Ok(()));
@@ -81,8 +76,8 @@ fn run(frames: usize, tree_huge: usize, init: Init, seed: u64) -> [usize; 2] {
     let mut run = Run { held: Held::of(&lower), lower, random: Random(seed), done: 0, refused: 0 };
     for _ in 0..run.below(100) {
         run.get();
-        let frame = run.below(frames);
-        if !run.held.has_room(frame, 1, 0) {
+        let frame = FrameId(run.below(frames));
+        if !run.held.has_room(frame.0, 1, 0) {
             run.put(frame, 0);
         }
     }
@@ -112,8 +107,8 @@ fn what_is_borrowed_and_returned_leaves_no_trace() {
     let mut gets = [0, 0];
     for tree_huge in (0..10).map(|log| 1 << log) {
         for init in [Init::FreeAll, Init::FreeAll, Init::AllocAll, Init::AllocAll] {
-            let frames = 1 + random.below(3 * 512 * tree_huge.min(8)) as usize;
-            let counts = run(frames, tree_huge as usize, init, random.word());
+            let frames = 1 + random.below(3 * 512 * tree_huge.min(8));
+            let counts = run(frames, tree_huge, init, random.word());
             gets = [gets[0] + counts[0], gets[1] + counts[1]];
         }
     }

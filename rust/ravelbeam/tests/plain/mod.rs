@@ -1,6 +1,12 @@
-//! A plain model of what is held: a flag for each frame.
+//! A plain model of what is held: a flag for each frame. And numbers to choose by.
 
-use ravelbeam::Lower;
+// Each test uses some of it.
+#![allow(dead_code, unused_imports)]
+
+mod random;
+
+pub use random::Random;
+use ravelbeam::{FrameId, Lower};
 
 pub struct Held {
     flags: Vec<bool>,
@@ -10,24 +16,25 @@ pub struct Held {
 impl Held {
     /// The frames that a state has as held, asked one by one.
     pub fn of(lower: &Lower<'_>) -> Held {
-        let flags: Vec<bool> = (0..lower.frames()).map(|frame| !lower.is_free(frame, 0).unwrap()).collect();
+        let flags: Vec<bool> =
+            (0..lower.frames()).map(|frame| !lower.is_free(FrameId(frame), 0).unwrap()).collect();
         let count = flags.iter().filter(|held| **held).count();
         Held { flags, count }
     }
 
     /// Holds a block that was handed out.
-    pub fn take(&mut self, frame: usize, order: usize) {
-        assert_eq!(frame % (1 << order), 0, "frame {frame} is not aligned at order {order}");
-        let block = &mut self.flags[frame..][..1 << order];
-        assert!(!block.contains(&true), "frame {frame}, order {order}: some of it is handed out twice");
+    pub fn take(&mut self, frame: FrameId, order: usize) {
+        assert!(frame.is_aligned(order), "{frame} is not aligned at order {order}");
+        let block = &mut self.flags[frame.0..][..1 << order];
+        assert!(!block.contains(&true), "{frame}, order {order}: some of it is handed out twice");
         block.fill(true);
         self.count += 1 << order;
     }
 
     /// Frees a block that was given back.
-    pub fn give(&mut self, frame: usize, order: usize) {
-        let block = &mut self.flags[frame..][..1 << order];
-        assert!(!block.contains(&false), "frame {frame}, order {order}: some of it was not held");
+    pub fn give(&mut self, frame: FrameId, order: usize) {
+        let block = &mut self.flags[frame.0..][..1 << order];
+        assert!(!block.contains(&false), "{frame}, order {order}: some of it was not held");
         block.fill(false);
         self.count -= 1 << order;
     }
