@@ -1,14 +1,14 @@
 -- Walks over runs of indices, and counts against sums and against walks over all indices: full counts and their quotients. Assumes nothing.
 use mathlib.Core.Path.{_≡_, refl, sym, ap, _∙_}
-use mathlib.Core.Bool.{Bool, true, false, true≢false}
+use mathlib.Core.Bool.{Bool, true, false, not, true≢false}
 use Prim.Native.Nat.{ℕ, zero, suc, _+_, _-_, _*_, _/_, _≤_, _<_}
 use native.Mathlib.Nat.{zero-mul, div-self, div-eq-of-lt}
 use native.Mathlib.Omega.{arith}
 use native.Mathlib.Numerals.{add-one}
 use lib.Dec.{eqb}
-use borrow.Author.Tests.{eq-eqb, ne-eqb}
+use borrow.Author.Tests.{eq-eqb, ne-eqb, not-true, not-false}
 use Rattle.base.specs.Walk.{pick, all, count, sum}
-use Rattle.base.proofs.Walks.{all-each, all-of, all-parts, count-le, count-full, count-of, count-none, count-parts, count-more}
+use Rattle.base.proofs.Walks.{all-each, all-of, all-fails, all-parts, count-le, count-full, count-of, count-none, count-parts, count-more}
 
 module _ (p : ℕ → Bool) where
   -- a walk over g runs of s indices each
@@ -72,7 +72,17 @@ module _ (p : ℕ → Bool) where
         go true e = eq-eqb (count p n i) n (count-of p n i (all-each p n i e))
         go false e = ne-eqb (count p n i) n (count-less e)
 
-    -- and so does the count's quotient by the number of indices
+    -- as a count of 0 tells that none does
+    pub count-tells-none : eqb (count p n i) 0 ≡ all (λ j. not (p j)) n i
+    count-tells-none = go (all (λ j. not (p j)) n i) refl
+      where
+        go : (b : Bool) → all (λ j. not (p j)) n i ≡ b → eqb (count p n i) 0 ≡ b
+        go true e = eq-eqb (count p n i) 0 (count-none p n i (λ j a l. not-true (p j) (all-each (λ j. not (p j)) n i e j a l)))
+        go false e =
+            let (j, a, l, q) = all-fails (λ j. not (p j)) n i e in
+            ne-eqb (count p n i) 0 (λ z. omega (arith, count-some n i j a l (not-false (p j) q)))
+
+    -- the quotient of a count by the number of indices tells that all pass
     pub quotient-tells-all : 0 < n → count p n i / n ≡ pick (all p n i) 1 0
     quotient-tells-all l = go (all p n i) refl
       where

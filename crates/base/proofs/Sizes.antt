@@ -1,14 +1,14 @@
 -- The sizes that follow from the huge order h, whichever of the two it is, the masks of a size and of its places, and a smaller size within a larger. Assumes nothing.
 use mathlib.Core.Path.{_≡_, sym, ap, _∙_}
 use Prim.Native.Nat.{ℕ, _+_, _-_, _*_, _/_, _%_, _^_, _≤_, _<_}
-use native.Mathlib.Nat.{add-zero, sub-add-cancel, mul-assoc, mul-le-mul-right, lt-of-mul-lt-mul-right, mul-mod-left, mod-lt, mod-eq-of-lt, div-add-mod'}
+use native.Mathlib.Nat.{add-zero, sub-add-cancel, mul-assoc, mul-comm, mul-le-mul-right, lt-of-mul-lt-mul-right, mul-mod-left, mod-lt, mod-eq-of-lt, div-add-mod', div-div-eq-div-mul, div-mul-le-self, lt-div-mul-add, mul-div-mul-right}
 use native.Mathlib.Omega.{arith}
 use lib.Bits.{bitAnd, and-mask}
 use lib.Dec.{lit<}
 use lib.Pow.{pow-pos, pow-mono, pow-add, mod-mod-pow}
 use Rattle.base.specs.Size.{Huge, rowsPer}
 use Rattle.base.proofs.Masks.{and-block}
-use Rattle.base.proofs.Rests.{block-ends, mod-rows}
+use Rattle.base.proofs.Rests.{quotient-is, block-ends, mod-rows}
 
 -- a smaller power of two divides a larger one: the places of a row, the groups of a huge frame
 pub pow-divides : (o k : ℕ) → o ≤ k → 2 ^ (k - o) * 2 ^ o ≡ 2 ^ k
@@ -48,6 +48,17 @@ place-ends p o k l e =
     let w = pow-divides o k l in
     let low : p % 2 ^ k < 2 ^ (k - o) * 2 ^ o = rw w (mod-lt p (pow-pos k)) in
     rw w at (block-ends (p % 2 ^ k) (2 ^ o) (2 ^ (k - o)) (rest-by-less p o k l ∙ e) low)
+
+-- the x-th run of 2 ^ k is made up of as many blocks of the smaller size, numbered from x * 2 ^ (k - o) on
+module _ (o k x : ℕ) (l : o ≤ k) where
+  pub block-number : (f : ℕ) → f / 2 ^ k ≡ x → (x * 2 ^ (k - o) ≤ f / 2 ^ o) × (f / 2 ^ o < x * 2 ^ (k - o) + 2 ^ (k - o))
+  block-number f e =
+      let number : f / 2 ^ o / 2 ^ (k - o) ≡ x = div-div-eq-div-mul f (2 ^ o) (2 ^ (k - o)) ∙ ap (λ (s : ℕ). f / s) (mul-comm (2 ^ o) (2 ^ (k - o)) ∙ pow-divides o k l) ∙ e in
+      rw (← number) (div-mul-le-self (f / 2 ^ o) (2 ^ (k - o)), lt-div-mul-add (pow-pos (k - o)))
+
+  pub block-of-number : (b : ℕ) → x * 2 ^ (k - o) ≤ b → b < x * 2 ^ (k - o) + 2 ^ (k - o) → b * 2 ^ o / 2 ^ k ≡ x
+  block-of-number b low high =
+      rw (← pow-divides o k l) (mul-div-mul-right b (2 ^ (k - o)) (pow-pos o) ∙ quotient-is (2 ^ (k - o)) x b low high)
 
 -- the last place of a block of 2 ^ o in 2 ^ k, as a mask: it keeps a place exactly if that is aligned and its block ends in 2 ^ k
 module _ (p o k : ℕ) (l : o ≤ k) where

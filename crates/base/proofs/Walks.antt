@@ -1,12 +1,14 @@
 -- Laws of the walks: what a loop's turn does, and what the answer says of each index. Assumes nothing.
 use mathlib.Core.Path.{_≡_, refl, sym, ap, _∙_}
-use mathlib.Core.Bool.{Bool, true, false}
+use mathlib.Core.Bool.{Bool, true, false, true≢false}
 use mathlib.Core.Logic.{_⊎_, inl, inr, ⊎-elim}
-use native.Mathlib.Decide.{decLe}
+use native.Mathlib.Decide.{decLe, decLt}
 use Prim.Native.Nat.{ℕ, zero, suc, _+_, _-_, _≤_, _<_, min, zero-le}
 use native.Mathlib.Omega.{arith}
 use native.Mathlib.Numerals.{add-one}
 use native.Mathlib.Nat.{add-zero, zero-add, suc-add, add-suc}
+use lib.Dec.{ltb}
+use borrow.Author.Tests.{lt-ltb, le-ltb}
 use Rattle.base.specs.Walk.{pick, first, all, count}
 
 eq-or-lt : (i j : ℕ) → i ≤ j → (j ≡ i) ⊎ (suc i ≤ j)
@@ -136,6 +138,17 @@ all-not p n i j l h e = go (all p n i) refl
     go : (b : Bool) → all p n i ≡ b → b ≡ false
     go true q = sym (all-each p n i q j l h) ∙ e
     go false q = refl
+
+-- and where it fails, there is one
+pub all-fails : (p : ℕ → Bool) (n i : ℕ) → all p n i ≡ false → (j : ℕ) × (i ≤ j) × (j < i + n) × (p j ≡ false)
+unfolding all
+all-fails p zero i e = absurd (true≢false e)
+all-fails p (suc n) i e = go (p i) refl e (all-fails p n (suc i))
+  where
+    go : (b : Bool) → p i ≡ b → pick b (all p n (suc i)) false ≡ false
+        → (all p n (suc i) ≡ false → (j : ℕ) × (suc i ≤ j) × (j < suc i + n) × (p j ≡ false)) → (j : ℕ) × (i ≤ j) × (j < i + suc n) × (p j ≡ false)
+    go true q e f = let (j, a, l, r) = f e in (j, omega arith, omega arith, r)
+    go false q e f = (i, omega arith, omega arith, q)
 
 module _ (p : ℕ → Bool) where
   pub count-le : (n i : ℕ) → count p n i ≤ n
@@ -276,6 +289,50 @@ pub first-never : (p : ℕ → Bool) (n i : ℕ) → ((k : ℕ) → i ≤ k → 
 unfolding first
 first-never p zero i f = omega arith
 first-never p (suc n) i f = rw (first, f i (omega arith) (omega arith)) (first-never p n (suc i) (λ k b c. f k (omega arith) (omega arith)) ∙ omega arith)
+
+-- a search in two parts: the second where the first finds none
+pub first-parts : (p : ℕ → Bool) (a b i : ℕ) → first p (a + b) i ≡ pick (ltb (first p a i) (i + a)) (first p a i) (first p b (i + a))
+unfolding first
+first-parts p zero b i = rw (zero-add b, add-zero i, le-ltb i i (omega arith))
+first-parts p (suc a) b i = rw (suc-add, first-parts p a b (suc i), move i a) (go (p i))
+  where
+    move : (i a : ℕ) → suc i + a ≡ i + suc a
+    move i a = omega arith
+
+    go : (t : Bool) → pick t i (pick (ltb (first p a (suc i)) (i + suc a)) (first p a (suc i)) (first p b (i + suc a)))
+        ≡ pick (ltb (pick t i (first p a (suc i))) (i + suc a)) (pick t i (first p a (suc i))) (first p b (i + suc a))
+    go true = rw (lt-ltb i (i + suc a) (omega arith))
+    go false = refl
+
+-- so a search of fewer indices is one of more, cut off at its end
+pub first-cut : (p : ℕ → Bool) (a b i : ℕ) → first p a i ≡ min (first p (a + b) i) (i + a)
+first-cut p a b i = rw (first-parts p a b i) (elim (decLt (first p a i) (i + a)) [
+  | yes l ↦ rw (lt-ltb _ _ l) (omega arith)
+  | no l ↦ rw (le-ltb (first p a i) (i + a) (omega arith)) (omega (arith, first-le p a i, first-from p b (i + a)))
+])
+
+-- a search that finds nothing among the first d indices goes on behind them
+module _ (p : ℕ → Bool) (n at i d : ℕ) (from : FirstFrom p n at i) (l : i + d ≤ n) {f : ℕ} (f-is : f ≡ first p d i) where
+  part-first : first p (n - i) i ≡ pick (ltb f (i + d)) f (first p (n - (i + d)) (i + d))
+  part-first =
+      let e : n - i ≡ d + (n - (i + d)) = omega arith in
+      rw (e, f-is) (first-parts p d (n - (i + d)) i)
+
+  pub part-found : f < i + d → f ≡ first p (n - at) at
+  part-found h = sym (rw (lt-ltb f (i + d) h) at part-first) ∙ from
+
+  pub part-passed : i + d ≤ f → FirstFrom p n at (i + d)
+  part-passed h = sym (rw (le-ltb f (i + d) h) at part-first) ∙ from
+
+-- a search of the indices moved by a
+pub first-shift : (p : ℕ → Bool) (a n i : ℕ) → a + first (λ j. p (a + j)) n i ≡ first p n (a + i)
+unfolding first
+first-shift p a zero i = refl
+first-shift p a (suc n) i = go (p (a + i)) (first-shift p a n (suc i) ∙ ap (first p n) (add-suc a i))
+  where
+    go : (t : Bool) → a + first (λ j. p (a + j)) n (suc i) ≡ first p n (suc (a + i)) → a + pick t i (first (λ j. p (a + j)) n (suc i)) ≡ pick t (a + i) (first p n (suc (a + i)))
+    go true e = refl
+    go false e = e
 
 -- one index more
 pub count-more : (p : ℕ → Bool) (n i : ℕ) → count p (n + 1) i ≡ count p n i + pick (p (i + n)) 1 0

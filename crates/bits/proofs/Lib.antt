@@ -1,3 +1,4 @@
 pub mod Blocks
+pub mod Firsts
 pub mod Tails
 pub mod Writing

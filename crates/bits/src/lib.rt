@@ -1,11 +1,12 @@
-// Runs of bits over any lent rows: are they alike, store them, count the clear ones. The bitfield and the lower level share these.
+// Runs of bits over any lent rows: are they alike, find the first of a kind, store them, count the clear ones. The bitfield
+// and the lower level share these.
 ghost use mathlib.Core.Path.{_≡_};
 ghost use mathlib.Core.Bool.{true, false};
 ghost use Prim.Native.Nat.{_+_, _-_, _*_, _^_, _<_, _≤_, min};
 ghost use lib.Dec.{eqb};
 ghost use lib.ListN.{length, getD, replicate};
-ghost use Rattle.base.specs.Walk.{all, count};
-ghost use Rattle.base.specs.Bits.{solid, bitIs, blockIs, overlay, withBits};
+ghost use Rattle.base.specs.Walk.{pick, first, all, count};
+ghost use Rattle.base.specs.Bits.{bitsAt, solid, bitIs, blockIs, overlay, withBits};
 ghost use Rattle.bits.specs.Block.{Block};
 
 // A row with every bit set, or every bit clear.
@@ -21,6 +22,25 @@ fn block_mask(place: usize, size: usize) -> u64
     ensures { λ r. ⌜ r ≡ (2 ^ size - 1) * 2 ^ place ⌝ }
 {
     (u64::MAX >> (64 - size)) << place
+}
+
+// A row in which the bits that are b are set.
+fn matching(v: u64, b: bool) -> u64
+    ensures { λ r. ⌜ r ≡ pick b v (2 ^ 64 - 1 - v) ⌝ }
+{
+    if b { v } else { !v }
+}
+
+// The first of a row's size bits from place on that is set, or that is clear; where there is none, their end.
+fn row_first(v: u64, place: usize, size: usize, b: bool) -> usize
+    requires { ⌜ (place < 64) × (place + size ≤ 64) ⌝ }
+    ensures { λ r. ⌜ r ≡ first (λ j. eqb (bitsAt v j 1) (pick b 1 0)) size place ⌝ }
+{
+    let found = place + u64::trailing_zeros(matching(v, b) >> place) as usize;
+    if found < place + size {
+        return found;
+    }
+    place + size
 }
 
 // Whether every row is x.
@@ -78,6 +98,28 @@ pub fn block_is(rows: &[u64], place: usize, order: usize, b: bool) -> bool
     }
     let e = i + base::size(order - 6);
     rows_are(&rows[i..e], solid_row(b))
+}
+
+// The first bit of a block that is set, or that is clear; where there is none, the block's end.
+pub fn block_first(rows: &[u64], place: usize, order: usize, b: bool) -> usize
+    requires { ⌜ (Block (now rows) place order) × (place + 2 ^ order < 2 ^ 64) ⌝ }
+    ensures { λ r. ⌜ r ≡ first (bitIs b (now (rows .entry))) (2 ^ order) place ⌝ }
+{
+    let size = base::size(order);
+    let end = place + size;
+    let mut i = place / 64;
+    if order < 6 {
+        return i * 64 + row_first(rows[i], place % 64, size, b);
+    }
+    let e = end / 64;
+    while i < e {
+        let found = row_first(rows[i], 0, 64, b);
+        if found < 64 {
+            return i * 64 + found;
+        }
+        i += 1;
+    }
+    end
 }
 
 // Whether the bits from place on are all set.

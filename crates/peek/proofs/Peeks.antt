@@ -8,7 +8,7 @@ use Rattle.base.specs.Size.{Huge, hugeOrder}
 use Rattle.rules.specs.declared.Got.{Got}
 use Rattle.rules.specs.State.{Mem}
 use Rattle.rules.specs.Calls.{get, put}
-use Rattle.rules.specs.Call.{Call, called}
+use Rattle.rules.specs.Call.{RowCall, Call, called}
 use Rattle.rules.proofs.Returns.{put-back}
 use Rattle.rules.proofs.Theorems.{calls-keep}
 use Rattle.peek.specs.Peek.{peek, Peeked}
@@ -32,5 +32,5 @@ module _ (n t : ℕ) (m : Mem) (row o : ℕ) (r : Got) (between : Mem) (gets : o
   unfolding peek called
   peek-refused z =
       let kept : between ≡ m =
-      ap (λ (x : Out Got Mem). x .left) gets ∙ calls-keep hugeOrder n t m nine .0 (Call.Get row o) .0 .refused (λ q. z (ap (λ (x : Out Got Mem). x .answer .code) gets ∙ q)) in
+      ap (λ (x : Out Got Mem). x .left) gets ∙ calls-keep hugeOrder n t m nine .0 (Call.OnRow RowCall.Get row o) .0 .refused (λ q. z (ap (λ (x : Out Got Mem). x .answer .code) gets ∙ q)) in
       record { exact = rw (← gets, ne-eqb (r .code) 0 z, kept); no-trace = λ _. kept }

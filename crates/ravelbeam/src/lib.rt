@@ -6,9 +6,10 @@ ghost use Rattle.rules.specs.Get.{got};
 ghost use Rattle.rules.specs.Queries.{statistics};
 ghost use Rattle.bitfield_rules.specs.Calls.{placed, zeroCount};
 ghost use Rattle.bitfield_rules.specs.Contracts.{Sets, Fills, Toggles, CountsZeros, FindsZeros, SetsFirstZeros};
-ghost use Rattle.rules.specs.Contracts.{Gets, GetsAt, Puts, TellsStats, TellsStatsAt, FindsFault, TellsRoom, FreesAll, ReservesAll, Recovers};
+ghost use Rattle.rules.specs.Contracts.{Gets, GetsAt, Puts, TellsStats, TellsStatsAt, FindsFault, TellsWhyGet, TellsWhyGetAt, TellsWhyPut, TellsRoom, FreesAll, ReservesAll, Recovers};
 ghost use Rattle.rules.specs.Audit.{fault};
 ghost use Rattle.rules.specs.Recover.{recovered};
+ghost use Rattle.rules.specs.Why.{why};
 ghost use Rattle.ravelbeam.specs.Flag.{isYes};
 ghost use Rattle.ravelbeam.specs.Contracts.{FindsNumbers, FlagsZero, FlagsFree, PlacesRun};
 use row::Found;
@@ -292,6 +293,66 @@ pub extern "C" fn rb_recover(
     *entries_changed = recovered.entries;
     *bitfields_changed = recovered.bitfields;
     recovered.code
+}
+
+// Why a get from a start row would be turned down.
+#[no_mangle]
+pub extern "C" fn rb_why_get(
+    n: usize,
+    t: usize,
+    rows: &[u64],
+    entries: &[u16],
+    row: usize,
+    order: usize,
+    reason: &mut u32,
+    frame: &mut usize,
+) -> u32
+    ensures { λ r. ⌜ TellsWhyGet hugeOrder n t (mem (now (rows .entry)) (now (entries .entry))) row order (why r (now (reason .exit)) (now (frame .exit))) ⌝ }
+{
+    let why = staff::why_get(n, t, rows, entries, row, order);
+    *reason = why.reason;
+    *frame = why.frame;
+    why.code
+}
+
+// Why a get of the block at a frame would be.
+#[no_mangle]
+pub extern "C" fn rb_why_get_at(
+    n: usize,
+    t: usize,
+    rows: &[u64],
+    entries: &[u16],
+    frame: usize,
+    order: usize,
+    reason: &mut u32,
+    at: &mut usize,
+) -> u32
+    ensures { λ r. ⌜ TellsWhyGetAt hugeOrder n t (mem (now (rows .entry)) (now (entries .entry))) frame order (why r (now (reason .exit)) (now (at .exit))) ⌝ }
+{
+    let why = staff::why_get_at(n, t, rows, entries, frame, order);
+    *reason = why.reason;
+    *at = why.frame;
+    why.code
+}
+
+// Why a put of the block at a frame would be.
+#[no_mangle]
+pub extern "C" fn rb_why_put(
+    n: usize,
+    t: usize,
+    rows: &[u64],
+    entries: &[u16],
+    frame: usize,
+    order: usize,
+    reason: &mut u32,
+    at: &mut usize,
+) -> u32
+    ensures { λ r. ⌜ TellsWhyPut hugeOrder n t (mem (now (rows .entry)) (now (entries .entry))) frame order (why r (now (reason .exit)) (now (at .exit))) ⌝ }
+{
+    let why = staff::why_put(n, t, rows, entries, frame, order);
+    *reason = why.reason;
+    *at = why.frame;
+    why.code
 }
 
 // The room of a frame's tree: nineteen counts.

@@ -30,7 +30,7 @@ fn groups(h: usize, entries: &[u16], at: usize, g: usize, c: usize) -> usize
 }
 
 // The count at an order, in the tree of t entries from at on, whose order is top.
-fn at_order(h: usize, t: usize, top: usize, entries: &[u16], at: usize, order: usize) -> usize
+pub fn at_order(h: usize, t: usize, top: usize, entries: &[u16], at: usize, order: usize) -> usize
     requires { ⌜ (Huge h) × (isTree t ≡ true) × (top ≡ topOrder h t) × (at + t ≤ length (now entries)) ⌝ }
     ensures { λ r. ⌜ r ≡ spec.roomAt h t (now (entries .entry)) at order ⌝ }
 {

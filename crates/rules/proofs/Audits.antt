@@ -1,26 +1,31 @@
--- A clean audit is exactly a consistent state, and any other names the first faulty huge frame. Assumes nothing.
+-- A tree without a reason is exactly a consistent one; a clean audit is exactly a consistent state, and any other names the first faulty huge frame. Assumes nothing.
 use mathlib.Core.Path.{_≡_, refl, sym, ap, _∙_}
 use mathlib.Core.Bool.{true, false}
 use mathlib.Core.Logic.{_⊎_, inl, inr, ⊎-elim}
-use Prim.Native.Nat.{ℕ, _+_, _-_, _*_, _^_, _<_}
+use Prim.Native.Nat.{ℕ, _+_, _-_, _*_, _/_, _^_, _<_}
 use native.Mathlib.Decide.{decLt, ℕ-discrete}
 use native.Mathlib.Omega.{arith}
+use lib.Dec.{eqb}
+use borrow.Author.Tests.{eq-eqb, eqb-true}
 use Rattle.base.specs.Bits.{bitIs}
 use Rattle.base.specs.Size.{Huge}
-use Rattle.base.proofs.Walks.{count-le}
+use Rattle.base.proofs.Rests.{quotient-is}
+use Rattle.base.proofs.Walks.{all-each, all-of, count-le}
 use Rattle.base.proofs.Frames.{block-each, block-of}
 use Rattle.base.proofs.Codes.{done}
-use Rattle.rules.specs.Numbers.{mark, entriesNeeded}
-use Rattle.rules.specs.State.{Mem, entryOf}
-use Rattle.rules.specs.Refusals.{sizesRefusal}
-use Rattle.rules.proofs.Numbers.{tree-pos}
+use Rattle.rules.specs.Numbers.{mark, treesNeeded, entriesNeeded}
+use Rattle.rules.specs.State.{Mem, entryOf, lengthsOf}
+use Rattle.rules.specs.Refusals.{Sized, sizesRefusal}
+use Rattle.rules.proofs.Numbers.{tree-pos, tree-ends}
 use Rattle.rules.proofs.Lent.{sized, sized-passes}
 use Rattle.rules.proofs.Present.{present-entry}
+use Rattle.rules.proofs.Needed.{tree-needed}
 use Rattle.rules.specs.declared.Fault.{Fault}
 use Rattle.rules.specs.Audit.{fault, reason, faultless, auditAll, audit}
 use Rattle.rules.proofs.Reasons.{reason-clean-absent, reason-absent-clean, reason-clean-marked, reason-marked-clean, reason-clean-counted, reason-counted-clean}
 use Rattle.rules.proofs.AuditSteps.{audit-named, named-faulty, none-before, audit-none, audit-clean-each, audit-each-clean}
-use Rattle.rules.specs.Consistent.{Fits, ByMark, ByCount, Consistent}
+use Rattle.rules.specs.Consistent.{Fits, ByMark, ByCount, ConsistentIn, Consistent}
+use Rattle.rules.specs.Why.{sound}
 use Rattle.rules.specs.Exact.{Audited}
 use Rattle.rules.proofs.Frees.{no-mark}
 
@@ -56,33 +61,50 @@ module _ (h n : ℕ) (m : Mem) (x : ℕ) (l : x * 2 ^ h < n) where
   counted-reasonless H k =
       reason-counted-clean h n m x l (no-mark H k) (block-of true (m .rows) n ((x + 1) * 2 ^ h - n) (λ f a b. k .past f (omega arith) (omega arith))) (k .counts)
 
--- ---- all of them
+-- ---- those of a tree
 
--- where the state is consistent, no huge frame has a reason
-pub consistent-reasonless : {h n t : ℕ} {m : Mem} → Huge h → Consistent h n t m → (x : ℕ) → x < entriesNeeded h n t → reason h n m x ≡ 0
-consistent-reasonless {h} {n} {t} {m} H c x u = elim (decLt (x * 2 ^ h) n) [
-  | yes l ↦ ⊎-elim (marked-reasonless h n m x l) (counted-reasonless h n m x l H) (c .present x l)
-  | no l ↦ reason-absent-clean h n m x (omega arith) (c .absent x (omega arith) u)
+-- where it is consistent, no huge frame of it has a reason
+pub consistent-reasonless : {h n t : ℕ} {m : Mem} {y : ℕ} → Huge h → ConsistentIn h n t m y → (x : ℕ) → x / t ≡ y → x < entriesNeeded h n t → reason h n m x ≡ 0
+consistent-reasonless {h} {n} {t} {m} H c x own u = elim (decLt (x * 2 ^ h) n) [
+  | yes l ↦ ⊎-elim (marked-reasonless h n m x l) (counted-reasonless h n m x l H) (c .present x own l)
+  | no l ↦ reason-absent-clean h n m x (omega arith) (c .absent x own (omega arith) u)
 ]
+
+-- and where none has, it is consistent
+reasonless-consistent : {h n t : ℕ} {m : Mem} → Fits m → Sized h n t (lengthsOf m) → (y : ℕ) → ((x : ℕ) → x / t ≡ y → x < entriesNeeded h n t → reason h n m x ≡ 0)
+    → ConsistentIn h n t m y
+reasonless-consistent {h} {n} {t} {m} fits s y none = record {
+  sized = s;
+  fits = fits;
+  present = λ x own l. reasonless h n m x l (none x own (present-entry h n t x (tree-pos t (s .tree)) l));
+  absent = λ x own l u. reason-clean-absent h n m x (omega arith) (none x own u);
+}
+
+-- so a needed tree is sound exactly if it is consistent
+pub tree-is-sound : (h n t : ℕ) (m : Mem) (y : ℕ) → Huge h → Fits m → Sized h n t (lengthsOf m) → y < treesNeeded h n t
+    → (sound h n t m y ≡ true → ConsistentIn h n t m y) × (ConsistentIn h n t m y → sound h n t m y ≡ true)
+unfolding sound
+tree-is-sound h n t m y H fits s l = (
+  λ e. reasonless-consistent fits s y (λ x own _.
+      let ends = tree-ends t x y (tree-pos t (s .tree)) own in
+      eqb-true (reason h n m x) 0 (all-each (λ x. eqb (reason h n m x) 0) t (y * t) e x (ends .0) (ends .1))),
+  λ c. all-of (λ x. eqb (reason h n m x) 0) t (y * t) (λ x a u.
+      eq-eqb (reason h n m x) 0 (consistent-reasonless H c x (quotient-is t y x a u) (omega (arith, tree-needed h n t y l)))),
+)
+
+-- ---- all of them
 
 pub clean-is-consistent : (h n t : ℕ) (m : Mem) → Huge h → Fits m → (audit h n t m ≡ fault 0 0 0 → Consistent h n t m) × (Consistent h n t m → audit h n t m ≡ fault 0 0 0)
 unfolding audit
 clean-is-consistent h n t m H fits = (clean, consistent)
   where
     clean : audit h n t m ≡ fault 0 0 0 → Consistent h n t m
-    clean e =
+    clean e y =
         let a = done (auditAll h n t m) (fault (sizesRefusal h n t m) 0 0) (λ r. r .code) refl (ap (λ (r : Fault). r .code) e) in
-        let s = sized h n t _ (a .0) in
-        let none = audit-clean-each h n t m (sym (a .1) ∙ e) in
-        record {
-          sized = s;
-          fits = fits;
-          present = λ x l. reasonless h n m x l (none x (present-entry h n t x (tree-pos t (s .tree)) l));
-          absent = λ x l u. reason-clean-absent h n m x (omega arith) (none x u);
-        }
+        reasonless-consistent fits (sized h n t _ (a .0)) y (λ x _. audit-clean-each h n t m (sym (a .1) ∙ e) x)
 
     consistent : Consistent h n t m → audit h n t m ≡ fault 0 0 0
-    consistent c = rw (sized-passes (c .sized)) (audit-each-clean h n t m (consistent-reasonless H c))
+    consistent c = rw (sized-passes (c 0 .sized)) (audit-each-clean h n t m (λ x. consistent-reasonless H (c (x / t)) x refl))
 
 -- ---- the first that is faulty
 

@@ -31,7 +31,7 @@ use Rattle.rules.specs.Starts as starts
 use Rattle.rules.specs.Recover.{mended}
 use Rattle.rules.proofs.Mended.{rows-beyond, entries-beyond}
 use Rattle.rules.specs.Call.{Call, left}
-use Rattle.rules.proofs.Leaves.{Leaves, refused, asked-block, asked-frame, asked-all, got-block, got-group, took-block, took-group, gave-block, gave-part, gave-group, recovered, leaves}
+use Rattle.rules.proofs.Leaves.{Leaves, refused, asked, got-block, got-group, took-block, took-group, gave-block, gave-part, gave-group, recovered, leaves}
 
 -- lengths, and all rows and entries beyond the needed ones, are as they were
 pub record Beyond (h n t : ℕ) (m after : Mem) : Type 0 where
@@ -85,9 +85,7 @@ module _ {h : ℕ} (H : Huge h) (n t : ℕ) (m : Mem) where
   leaves-beyond : {c : Call} {ks : List ℕ} {after : Mem} → Leaves h n t m c ks after → Beyond h n t m after
   unfolding mended
   leaves-beyond (refused q) = unwritten m
-  leaves-beyond asked-block = unwritten m
-  leaves-beyond asked-frame = unwritten m
-  leaves-beyond asked-all = unwritten m
+  leaves-beyond (asked stays) = unwritten m
   leaves-beyond (got-block row o j f p s l e) =
       block-kept H (tree-pos t (started h n t _ row o s .sized .tree)) m true f o _
       (visit-free H n (m .rows) (m .entries) row o (entryAt t (row / rowsPer h) j) f e .ends)

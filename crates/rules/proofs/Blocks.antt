@@ -1,8 +1,8 @@
--- What a consistent state says of a huge frame by its entry, and of a block below the huge order by its bits and its entry. Assumes nothing.
+-- What a consistent tree says of a huge frame by its entry, and of a block below the huge order by its bits and its entry. Assumes nothing.
 use mathlib.Core.Path.{_≡_, sym, ap, _∙_}
 use mathlib.Core.Bool.{true, false, not, and-true}
 use mathlib.Core.Logic.{⊎-elim}
-use Prim.Native.Nat.{ℕ, _+_, _*_, _%_, _^_, _≤_, _<_}
+use Prim.Native.Nat.{ℕ, _+_, _*_, _/_, _%_, _^_, _≤_, _<_}
 use native.Mathlib.Nat.{div-mul-le-self}
 use native.Mathlib.Omega.{arith}
 use lib.ListN.{length}
@@ -17,21 +17,21 @@ use Rattle.base.proofs.Frames.{block-walk, set-not-clear, zeros-block}
 use Rattle.rules.specs.Numbers.{mark, hugeOf}
 use Rattle.rules.specs.State.{Mem, entryOf}
 use Rattle.rules.proofs.Present.{present-ends, block-within, block-huge}
-use Rattle.rules.specs.Consistent.{ByMark, ByCount, Consistent, free, held}
+use Rattle.rules.specs.Consistent.{ByMark, ByCount, ConsistentIn, free, held}
 use Rattle.rules.proofs.Frees.{no-mark, held-mark}
 
 -- below N, and not under a mark, the bit tells whether a frame is free
 pub free-bit : (h n : ℕ) (m : Mem) (g : ℕ) → g < n → (entryOf (m .entries) (hugeOf h g) ≡ mark → ⊥) → free h n m g ≡ bitIs false (m .rows) g
 free-bit h n m g l q = rw (lt-ltb g n l, ne-eqb (entryOf (m .entries) (hugeOf h g)) mark q) (and-true (bitIs false (m .rows) g))
 
-module _ {h n t : ℕ} {m : Mem} (c : Consistent h n t m) where
+module _ {h n t : ℕ} {m : Mem} {y : ℕ} (c : ConsistentIn h n t m y) where
   -- a present huge frame without the mark is counted
-  pub is-counted : (x : ℕ) → x * 2 ^ h < n → (entryOf (m .entries) x ≡ mark → ⊥) → ByCount h n m x
-  is-counted x l q = ⊎-elim (λ (k : ByMark h n m x). absurd (q (k .marked))) (λ k. k) (c .present x l)
+  pub is-counted : (x : ℕ) → x / t ≡ y → x * 2 ^ h < n → (entryOf (m .entries) x ≡ mark → ⊥) → ByCount h n m x
+  is-counted x own l q = ⊎-elim (λ (k : ByMark h n m x). absurd (q (k .marked))) (λ k. k) (c .present x own l)
 
   -- and one with it is not
-  pub is-marked : Huge h → (x : ℕ) → x * 2 ^ h < n → entryOf (m .entries) x ≡ mark → ByMark h n m x
-  is-marked H x l q = ⊎-elim (λ k. k) (λ (k : ByCount h n m x). absurd (no-mark H k q)) (c .present x l)
+  pub is-marked : Huge h → (x : ℕ) → x / t ≡ y → x * 2 ^ h < n → entryOf (m .entries) x ≡ mark → ByMark h n m x
+  is-marked H x own l q = ⊎-elim (λ k. k) (λ (k : ByCount h n m x). absurd (no-mark H k q)) (c .present x own l)
 
   module _ (f o : ℕ) (low : o < h) (even : f % 2 ^ o ≡ 0) (ends : f + 2 ^ o ≤ n) where
     -- the block's huge frame is present
@@ -66,11 +66,11 @@ module _ {h n t : ℕ} {m : Mem} (c : Consistent h n t m) where
           ∙ sym (block-walk true (m .rows) f (2 ^ o))
 
       -- the entry counts at least the block's frames where they are free
-      pub block-counts : blockIs false (m .rows) f (2 ^ o) ≡ true → 2 ^ o ≤ entryOf (m .entries) (hugeOf h f)
-      block-counts e =
+      pub block-counts : hugeOf h f / t ≡ y → blockIs false (m .rows) f (2 ^ o) ≡ true → 2 ^ o ≤ entryOf (m .entries) (hugeOf h f)
+      block-counts own e =
           omega (
             arith,
-            is-counted (hugeOf h f) block-present q .counts,
+            is-counted (hugeOf h f) own block-present q .counts,
             zeros-block false (m .rows) f (2 ^ o) e,
             count-run (bitIs false (m .rows)) (2 ^ h) (hugeOf h f * 2 ^ h) f (2 ^ o) (div-mul-le-self f (2 ^ h)) (omega (arith, block-within f o low even)),
           )

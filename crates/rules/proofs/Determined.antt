@@ -1,5 +1,5 @@
 -- A consistent state is determined by its free frames and its marks, and by what lies beyond the needed rows and entries. Assumes nothing.
-use mathlib.Core.Path.{_≡_, sym, ap₂, _∙_}
+use mathlib.Core.Path.{_≡_, refl, sym, ap₂, _∙_}
 use mathlib.Core.Bool.{false, _||_}
 use mathlib.Core.Logic.{⊎-elim}
 use Prim.Native.Nat.{ℕ, _+_, _*_, _/_, _^_, _≤_, _<_}
@@ -31,7 +31,7 @@ module _ {h n t : ℕ} {m : Mem} (H : Huge h) (c : Consistent h n t m) (x : ℕ)
   clear-told f a u = ⊎-elim
       (λ k. rw (eq-eqb _ _ (k .marked)) (k .clear f a u))
       (λ (k : ByCount h n m x). rw (ne-eqb _ _ (no-mark H k)) (sym (counted-free H k f a u)))
-      (c .present x l)
+      (c (x / t) .present x refl l)
 
 -- ---- two states
 
@@ -40,7 +40,7 @@ module _ {h n t : ℕ} {a b : Mem} (H : Huge h) (ca : Consistent h n t a) (cb : 
     (marks : (x : ℕ) → x < entriesNeeded h n t → marked a x ≡ marked b x) where
   module _ (x : ℕ) (l : x * 2 ^ h < n) where
     same-mark : marked a x ≡ marked b x
-    same-mark = marks x (present-entry h n t x (tree-pos t (ca .sized .tree)) l)
+    same-mark = marks x (present-entry h n t x (tree-pos t (ca 0 .sized .tree)) l)
 
     same-clear : (f : ℕ) → x * 2 ^ h ≤ f → f < (x + 1) * 2 ^ h → bitIs false (a .rows) f ≡ bitIs false (b .rows) f
     same-clear f low high = clear-told H ca x l f low high ∙ ap₂ _||_ same-mark (frees f) ∙ sym (clear-told H cb x l f low high)
@@ -50,11 +50,11 @@ module _ {h n t : ℕ} {a b : Mem} (H : Huge h) (ca : Consistent h n t a) (cb : 
 
   same : Same h n t a b
   same = record {
-    rows = λ i l. same-row (a .rows) (b .rows) (ca .fits .rows) (cb .fits .rows) i
+    rows = λ i l. same-row (a .rows) (b .rows) (ca 0 .fits .rows) (cb 0 .fits .rows) i
         (λ f low high. let own = row-within H i f low high in same-clear (i / rowsPer h) (row-present h n i l) f (own .0) (own .1));
     entries = λ x u. elim (decLt (x * 2 ^ h) n) [
-      | yes l ↦ entry-told H ca x l ∙ rw (same-mark x l, same-count x l) (sym (entry-told H cb x l))
-      | no l ↦ ca .absent x (omega arith) u ∙ sym (cb .absent x (omega arith) u)
+      | yes l ↦ entry-told H (ca (x / t)) x refl l ∙ rw (same-mark x l, same-count x l) (sym (entry-told H (cb (x / t)) x refl l))
+      | no l ↦ ca (x / t) .absent x refl (omega arith) u ∙ sym (cb (x / t) .absent x refl (omega arith) u)
     ];
   }
 

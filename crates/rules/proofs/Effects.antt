@@ -1,5 +1,5 @@
--- What a call that takes or gives back a block does to a consistent state: the state stays consistent, and exactly the block's frames turn. And which frames are a
--- block's. Assumes nothing.
+-- What a call that takes or gives back a block does: every tree that was consistent stays so, and exactly the block's frames turn. And which frames are a block's.
+-- Assumes nothing.
 use mathlib.Core.Path.{_≡_}
 use mathlib.Core.Bool.{true, false}
 use mathlib.Core.Logic.{_⊎_, inl, inr, ⊎-elim}
@@ -8,17 +8,17 @@ use native.Mathlib.Decide.{decLt}
 use native.Mathlib.Omega.{arith}
 use borrow.Author.Tests.{le-leb, lt-leb, lt-ltb, le-ltb}
 use Rattle.rules.specs.State.{Mem}
-use Rattle.rules.specs.Consistent.{Consistent, inBlock}
+use Rattle.rules.specs.Consistent.{ConsistentIn, inBlock}
 use Rattle.rules.specs.Exact.{Taken, Given}
 
 -- the block of order o at a was taken
 pub record Took (h n t : ℕ) (m left : Mem) (a o : ℕ) : Type 0 where
-  pub consistent : Consistent h n t left
+  pub keeps : (y : ℕ) → ConsistentIn h n t m y → ConsistentIn h n t left y
   pub taken : Taken h n m left a o
 
 -- the block was given back
 pub record Gave (h n t : ℕ) (m left : Mem) (a o : ℕ) : Type 0 where
-  pub consistent : Consistent h n t left
+  pub keeps : (y : ℕ) → ConsistentIn h n t m y → ConsistentIn h n t left y
   pub given : Given h n m left a o
 
 -- ---- a block's frames, and those beside it

@@ -32,7 +32,7 @@ module _ {h n t : ℕ} {m left : Mem} (f o : ℕ) (low : o < h) (even : f % 2 ^ 
   pub took : all (free h n m) (2 ^ o) f ≡ true
       → ((g : ℕ) → f ≤ g → g < f + 2 ^ o → bitIs false (left .rows) g ≡ false) → Took h n t m left f o
   took was set = record {
-    consistent = r .consistent;
+    keeps = r .keeps;
     taken = record {
       was = was;
       is = λ g. by-place f o g (λ l u. rw (in-block f o g l u) (left-in g l u ∙ set g l u ∙ sym (and-false (free h n m g)))) (λ s. rw (out-of-block f o g s) (left-beside g s ∙ sym (and-true (free h n m g))));
@@ -41,7 +41,7 @@ module _ {h n t : ℕ} {m left : Mem} (f o : ℕ) (low : o < h) (even : f % 2 ^ 
 
   pub gave : all (held h n m) (2 ^ o) f ≡ true → ((g : ℕ) → f ≤ g → g < f + 2 ^ o → bitIs false (left .rows) g ≡ true) → Gave h n t m left f o
   gave was clear = record {
-    consistent = r .consistent;
+    keeps = r .keeps;
     given = record {
       was = was;
       is = λ g. by-place f o g (λ l u. rw (in-block f o g l u) (left-in g l u ∙ clear g l u ∙ sym (or-true (free h n m g)))) (λ s. rw (out-of-block f o g s) (left-beside g s ∙ sym (or-false (free h n m g))));

@@ -1,8 +1,8 @@
--- What makes a frame free, what makes it held, and what an entry of a consistent state is. Assumes nothing.
+-- What makes a frame free, what makes it held, and what an entry of a consistent tree is. Assumes nothing.
 use mathlib.Core.Path.{_≡_, refl, sym, _∙_}
 use mathlib.Core.Bool.{Bool, true, false, not, _&&_, and-true}
 use mathlib.Core.Logic.{⊎-elim}
-use Prim.Native.Nat.{ℕ, _+_, _*_, _^_, _≤_, _<_}
+use Prim.Native.Nat.{ℕ, _+_, _*_, _/_, _^_, _≤_, _<_}
 use native.Mathlib.Decide.{decLt}
 use native.Mathlib.Omega.{arith}
 use lib.Dec.{eqb, ltb}
@@ -15,7 +15,7 @@ use Rattle.base.proofs.Sizes.{frames-fit}
 use Rattle.rules.specs.Numbers.{mark, hugeOf}
 use Rattle.rules.specs.State.{Mem, entryOf, clearOf}
 use Rattle.rules.proofs.Present.{huge-is}
-use Rattle.rules.specs.Consistent.{ByCount, Consistent, free}
+use Rattle.rules.specs.Consistent.{ByCount, ConsistentIn, free}
 
 -- a count is never the mark
 pub no-mark : {h n : ℕ} {m : Mem} {x : ℕ} → Huge h → ByCount h n m x → entryOf (m .entries) x ≡ mark → ⊥
@@ -58,6 +58,6 @@ counted-free {h} {n} {m} {x} H k f low high = elim (decLt f n) [
 ]
 
 -- the entry of a present huge frame is the mark, or the number of clear bits
-pub entry-told : {h n t : ℕ} {m : Mem} → Huge h → Consistent h n t m → (x : ℕ) → x * 2 ^ h < n
+pub entry-told : {h n t : ℕ} {m : Mem} {y : ℕ} → Huge h → ConsistentIn h n t m y → (x : ℕ) → x / t ≡ y → x * 2 ^ h < n
     → entryOf (m .entries) x ≡ pick (eqb (entryOf (m .entries) x) mark) mark (clearOf h (m .rows) x)
-entry-told {h} {n} {m = m} H c x l = ⊎-elim (λ k. rw (eq-eqb _ _ (k .marked)) (k .marked)) (λ (k : ByCount h n m x). rw (ne-eqb _ _ (no-mark H k)) (k .counts)) (c .present x l)
+entry-told {h} {n} {m = m} H c x own l = ⊎-elim (λ k. rw (eq-eqb _ _ (k .marked)) (k .marked)) (λ (k : ByCount h n m x). rw (ne-eqb _ _ (no-mark H k)) (k .counts)) (c .present x own l)

@@ -1,4 +1,4 @@
--- A get without a frame below the huge order, on a consistent state: it takes the first free block in its search order, or there is none. Assumes nothing.
+-- A get without a frame below the huge order, in a consistent tree: it takes the first free block in its search order, or there is none. Assumes nothing.
 use mathlib.Core.Path.{_≡_, sym, ap, _∙_}
 use mathlib.Core.Bool.{true, false, true≢false}
 use mathlib.Core.Logic.{_⊎_, inl, inr, ⊎-elim}
@@ -24,7 +24,7 @@ use Rattle.rules.proofs.Lent.{started, started-exactly}
 use Rattle.rules.specs.declared.Visit.{Visit}
 use Rattle.rules.specs.declared.Visit.the-variants.{Pass, Damage, Place}
 use Rattle.rules.proofs.GetSteps.{entry-lent, stopsAt}
-use Rattle.rules.specs.Consistent.{Consistent, free}
+use Rattle.rules.specs.Consistent.{ConsistentIn, free}
 use Rattle.rules.specs.Exact.{stepsTo, round, rank, Candidate, Missed, First}
 use Rattle.rules.proofs.Effects.{Took}
 use Rattle.rules.proofs.Rings.{steps-low, steps-same, visited-ring, visited-steps, steps-visited}
@@ -38,7 +38,8 @@ says-none h n m row o x Pass none e = none
 says-none h n m row o x Damage damage e = absurd damage
 says-none h n m row o x (Place a) first e = absurd (true≢false e)
 
-module _ {h n t : ℕ} {m : Mem} (H : Huge h) (c : Consistent h n t m) (row o : ℕ) (passes : startRefusal h n t m row o ≡ 0) (low : o < h) where
+module _ {h n t : ℕ} {m : Mem} {y : ℕ} (H : Huge h) (c : ConsistentIn h n t m y) (row o : ℕ) (own : treeOf h t (row * 64) ≡ y) (passes : startRefusal h n t m row o ≡ 0)
+    (low : o < h) where
   pos : 0 < t
   pos = tree-pos t (c .sized .tree)
 
@@ -49,7 +50,10 @@ module _ {h n t : ℕ} {m : Mem} (H : Huge h) (c : Consistent h n t m) (row o : 
   round-is : (f : ℕ) → round h t row o f ≡ stepsTo t (row / rowsPer h) (hugeOf h f)
   round-is f = rw (one, div-one, mul-one)
 
-  -- the tree's entries are needed
+  -- the tree is y, and its entries are needed
+  entry-own : (j : ℕ) → entryAt t (row / rowsPer h) j / t ≡ y
+  entry-own j = visited-ring t (row / rowsPer h) pos j ∙ sym (tree-by-rows t row H) ∙ own
+
   entry-needed : (j : ℕ) → entryAt t (row / rowsPer h) j < entriesNeeded h n t
   entry-needed = entry-lent H (started-exactly (started h n t _ row o passes))
 
@@ -66,8 +70,8 @@ module _ {h n t : ℕ} {m : Mem} (H : Huge h) (c : Consistent h n t m) (row o : 
   passed-held f b l =
       let j = stepsTo t (row / rowsPer h) (hugeOf h f) in
       let before : stopsAt h n t m row o j ≡ false = first-before (stopsAt h n t m row o) t 0 j (omega arith) (rw (round-is f) at l) in
-      let y = entryAt t (row / rowsPer h) j in
-      says-none h n m row o y (visit h n m row o y) (visit-says H c row o low y (entry-needed j)) before f
+      let x = entryAt t (row / rowsPer h) j in
+      says-none h n m row o x (visit h n m row o x) (visit-says H c row o low x (entry-own j) (entry-needed j)) before f
       (record { huge = sym (steps-visited t (row / rowsPer h) pos (hugeOf h f) (tree-ring f (b .tree))); aligned = b .aligned; ends = b .ends })
 
   -- past the refusals
@@ -142,11 +146,11 @@ module _ {h n t : ℕ} {m : Mem} (H : Huge h) (c : Consistent h n t m) (row o : 
     get-done Pass s e is = absurd (true≢false (sym e))
     get-done Damage s e is = absurd s
     get-done (Place a) s e is =
-        rw is (get-first a s (small-taken H c a o low (s .block .aligned) (s .block .ends) (rw (s .block .huge) (s .counted)) (s .clear)) is)
+        rw is (get-first a s (small-taken H c a o low (s .block .aligned) (s .block .ends) (rw (s .block .huge) (entry-own j)) (rw (s .block .huge) (s .counted)) (s .clear)) is)
 
   -- it finds no free block and there is none, or it takes the first
   pub get-below : Missed h n t m row o ⊎ (First h n t m row o (get h n t m row o .answer .frame) × Took h n t m (get h n t m row o .left) (get h n t m row o .answer .frame) o)
   get-below = elim (decLt (visitsPassed h n t m row o) t) [
-    | yes l ↦ inr (get-done l (visit h n m row o (x l)) (visit-says H c row o low (x l) (entry-needed (j l))) (one-stops l) (one-answers l))
+    | yes l ↦ inr (get-done l (visit h n m row o (x l)) (visit-says H c row o low (x l) (entry-own (j l)) (entry-needed (j l))) (one-stops l) (one-answers l))
     | no l ↦ inl (get-missed (omega arith))
   ]

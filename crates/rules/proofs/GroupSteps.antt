@@ -8,10 +8,11 @@ use lib.Pow.{pow-pos, field}
 use borrow.Author.Tests.{ltb-true}
 use Rattle.base.specs.Size.{Huge, rowsPer}
 use Rattle.base.proofs.Sizes.{frames-many, pow-divides}
+use Rattle.base.proofs.Rests.{quotient-is}
 use Rattle.rules.specs.Numbers.{hugeOf, treeOf, treeLog, topOrder, groupOf}
 use Rattle.rules.specs.State.{Lengths}
 use Rattle.rules.specs.Refusals.{Sized, Blocked, Started}
-use Rattle.rules.proofs.Numbers.{tree-pow, tree-high, huge-by-rows}
+use Rattle.rules.proofs.Numbers.{tree-pow, tree-high, tree-of-huge, huge-by-rows}
 use Rattle.rules.proofs.Lent.{block-entries, block-in-tree, start-tree}
 use Rattle.rules.specs.Get.{groupAt}
 use Rattle.rules.proofs.Wraps.{step-next, step-first, step-ends, step-rest}
@@ -51,6 +52,12 @@ group-in-tree {h} {t = t} {f = f} {o} b l =
   where
     swap : (q p t : ℕ) → (q + 1) * (p * t) ≡ (q * t + t) * p
     swap q p t = omega arith
+
+-- so each of them is one of that tree
+pub group-own : {h n t : ℕ} {len : Lengths} {f o : ℕ} → Blocked h n t len f o → h ≤ o → (x : ℕ) → hugeOf h f ≤ x → x < hugeOf h f + groupOf h o → x / t ≡ treeOf h t f
+group-own {h} {t = t} {f = f} b l x low high =
+    let first : treeOf h t f * t ≤ hugeOf h f = rw (tree-of-huge h t f) (div-mul-le-self (hugeOf h f) t) in
+    quotient-is t (treeOf h t f) x (omega arith) (omega (arith, group-in-tree b l))
 
 -- ---- the groups of a tree
 
@@ -141,6 +148,10 @@ module _ {t g x first c lent : ℕ} (T : Tree t g x first c lent) where
         let s : x % t / g * g + j * g ≡ (x % t / g + j) * g = omega arith in
         let l : (x % t / g * g + j * g) % t + g ≤ t = rw s (rw (T .whole) at (step-ends c g (T .some) (T .wide) (x % t / g + j))) in
         omega (arith, T .begins)
+
+    -- so each huge frame of it is in the tree
+    pub group-here : (z : ℕ) → at ≤ z → z < at + g → z / t ≡ x / t
+    group-here z low high = quotient-is t (x / t) z (omega (arith, T .begins)) (omega (arith, T .begins, group-ends))
 
     -- one group further
     one-more : x % t / g * g + j * g + g ≡ x % t / g * g + (j + 1) * g

@@ -15,7 +15,7 @@ use Rattle.rules.specs.State.{Mem, mem, entryOf, withEntries}
 use Rattle.rules.proofs.Numbers.{tree-pos}
 use Rattle.rules.proofs.Present.{present-entry}
 use Rattle.rules.proofs.GroupSteps.{group-frames}
-use Rattle.rules.specs.Consistent.{ByMark, ByCount, Consistent, free, inBlock}
+use Rattle.rules.specs.Consistent.{ByMark, ByCount, ConsistentIn, free, inBlock}
 use Rattle.rules.proofs.Effects.{in-block, out-of-block}
 
 -- ---- the group from huge frame `at` on that a block of order o is
@@ -58,7 +58,7 @@ same-entry e = ⊎-elim
     (λ k. inl (record { marked = e ∙ k .marked; below = k .below; clear = k .clear }))
     (λ k. inr (record { most = omega (arith, k .most); counts = e ∙ k .counts; past = k .past }))
 
-module _ {h n t : ℕ} {m : Mem} (c : Consistent h n t m) (at o : ℕ) (l : h ≤ o) (ends : (at + groupOf h o) * 2 ^ h ≤ n) where
+module _ {h n t : ℕ} {m : Mem} {z : ℕ} (c : ConsistentIn h n t m z) (at o : ℕ) (l : h ≤ o) (ends : (at + groupOf h o) * 2 ^ h ≤ n) where
   pub within-below : (x : ℕ) → Within h at o l x → (x + 1) * 2 ^ h ≤ n
   within-below x w =
       let below : (x + 1) * 2 ^ h ≤ (at + groupOf h o) * 2 ^ h = mul-le-mul-right (2 ^ h) (omega (arith, w .1)) in
@@ -82,14 +82,15 @@ module _ {h n t : ℕ} {m : Mem} (c : Consistent h n t m) (at o : ℕ) (l : h �
     pub free-beside : (f : ℕ) → Beside h at o l (hugeOf h f) → free h n groupWritten f ≡ free h n m f
     free-beside f b = rw (entry-beside (hugeOf h f) b)
 
-    -- the state is consistent if the group's huge frames are
-    pub group-consistent : v < 2 ^ 16 → ((x : ℕ) → Within h at o l x → ByMark h n groupWritten x ⊎ ByCount h n groupWritten x) → Consistent h n t groupWritten
-    group-consistent few each = record {
+    -- a consistent tree stays so if the group's huge frames are
+    pub group-keeps : v < 2 ^ 16 → ((x : ℕ) → Within h at o l x → ByMark h n groupWritten x ⊎ ByCount h n groupWritten x)
+        → (y : ℕ) → ConsistentIn h n t m y → ConsistentIn h n t groupWritten y
+    group-keeps few each _ k = record {
       sized = rw (length-written (λ i. v) (m .entries) at (groupOf h o)) (c .sized);
       fits = record {
         rows = c .fits .rows;
         entries = λ x. ⊎-elim (λ w. rw (entry-within x w) few) (λ b. rw (entry-beside x b) (c .fits .entries x)) (within-or-beside h at o l x);
       };
-      present = λ x u. ⊎-elim (each x) (λ b. same-entry (entry-beside x b) (c .present x u)) (within-or-beside h at o l x);
-      absent = λ x u needed. ⊎-elim (λ w. absurd (omega (arith, within-present x w))) (λ b. entry-beside x b ∙ c .absent x u needed) (within-or-beside h at o l x);
+      present = λ x own u. ⊎-elim (each x) (λ b. same-entry (entry-beside x b) (k .present x own u)) (within-or-beside h at o l x);
+      absent = λ x own u needed. ⊎-elim (λ w. absurd (omega (arith, within-present x w))) (λ b. entry-beside x b ∙ k .absent x own u needed) (within-or-beside h at o l x);
     }

@@ -1,8 +1,8 @@
--- A block from the huge order up is free where its huge frames are, and on a consistent state their entries tell so. Assumes nothing.
+-- A block from the huge order up is free where its huge frames are, and in a consistent tree their entries tell so. Assumes nothing.
 use mathlib.Core.Path.{_≡_, sym, ap, _∙_}
 use mathlib.Core.Bool.{false}
 use mathlib.Core.Logic.{⊎-elim}
-use Prim.Native.Nat.{ℕ, _+_, _*_, _%_, _^_, _≤_, _<_}
+use Prim.Native.Nat.{ℕ, _+_, _*_, _/_, _%_, _^_, _≤_, _<_}
 use native.Mathlib.Decide.{decLt}
 use native.Mathlib.Nat.{mul-le-mul-right}
 use native.Mathlib.Omega.{arith}
@@ -19,8 +19,7 @@ use Rattle.rules.specs.State.{Mem, entryOf, freeOf, entriesAre}
 use Rattle.rules.proofs.Entries.{free-mark, free-own, whole-free}
 use Rattle.rules.proofs.Numbers.{tree-pos, block-begins}
 use Rattle.rules.proofs.Present.{present-entry, huge-is}
-use Rattle.rules.specs.Consistent.{ByMark, ByCount, Consistent, free}
-use Rattle.rules.specs.Exact.{entirely}
+use Rattle.rules.specs.Consistent.{ByMark, ByCount, ConsistentIn, free, entirely}
 use Rattle.rules.proofs.Frees.{no-mark, counted-free, held-mark, held-past}
 
 -- ---- a block by its huge frames
@@ -35,28 +34,29 @@ block-is-its-huge-frames h n m a o l e =
 
 -- ---- what an entry tells
 
-module _ {h n t : ℕ} {m : Mem} (H : Huge h) (c : Consistent h n t m) where
+module _ {h n t : ℕ} {m : Mem} {y : ℕ} (H : Huge h) (c : ConsistentIn h n t m y) where
   -- the free count of a needed entry is the number of free frames of its huge frame
-  pub entry-counts : (x : ℕ) → x < entriesNeeded h n t → freeOf (entryOf (m .entries) x) ≡ count (free h n m) (2 ^ h) (x * 2 ^ h)
-  entry-counts x u = elim (decLt (x * 2 ^ h) n) [
+  pub entry-counts : (x : ℕ) → x / t ≡ y → x < entriesNeeded h n t → freeOf (entryOf (m .entries) x) ≡ count (free h n m) (2 ^ h) (x * 2 ^ h)
+  entry-counts x own u = elim (decLt (x * 2 ^ h) n) [
     | yes l ↦ ⊎-elim
         (λ (k : ByMark h n m x). sym (free-mark (k .marked)) ∙ sym (count-none (free h n m) (2 ^ h) (x * 2 ^ h)
         (λ f a b. held-mark h n m f (ap (entryOf (m .entries)) (huge-is h x f a (omega arith)) ∙ k .marked))))
         (λ (k : ByCount h n m x). sym (free-own (no-mark H k)) ∙ k .counts
         ∙ count-same (bitIs false (m .rows)) (free h n m) (2 ^ h) (x * 2 ^ h) (λ f a b. sym (counted-free H k f a (omega arith))))
-        (c .present x l)
-    | no l ↦ ap freeOf (c .absent x (omega arith) u) ∙ sym (count-none (free h n m) (2 ^ h) (x * 2 ^ h) (λ f a b. held-past h n m f (omega arith)))
+        (c .present x own l)
+    | no l ↦ ap freeOf (c .absent x own (omega arith) u) ∙ sym (count-none (free h n m) (2 ^ h) (x * 2 ^ h) (λ f a b. held-past h n m f (omega arith)))
   ]
 
   -- so it tells whether all of them are free
-  pub entry-tells : (x : ℕ) → x < entriesNeeded h n t → entirely h n m (2 ^ h) x ≡ eqb (entryOf (m .entries) x) (2 ^ h)
-  entry-tells x u =
-      sym (count-tells-all (free h n m) (2 ^ h) (x * 2 ^ h)) ∙ rw (← entry-counts x u) (whole-free (entryOf (m .entries) x) H)
+  pub entry-tells : (x : ℕ) → x / t ≡ y → x < entriesNeeded h n t → entirely h n m (2 ^ h) x ≡ eqb (entryOf (m .entries) x) (2 ^ h)
+  entry-tells x own u =
+      sym (count-tells-all (free h n m) (2 ^ h) (x * 2 ^ h)) ∙ rw (← entry-counts x own u) (whole-free (entryOf (m .entries) x) H)
 
--- so the entries of a group that ends at or before N tell whether it is free
-pub groups-free : {h n t : ℕ} {m : Mem} → Huge h → Consistent h n t m → (at o : ℕ) → h ≤ o → (at + groupOf h o) * 2 ^ h ≤ n
+-- so the entries of a group of the tree that ends at or before N tell whether it is free
+pub groups-free : {h n t : ℕ} {m : Mem} {y : ℕ} → Huge h → ConsistentIn h n t m y → (at o : ℕ) → h ≤ o → (at + groupOf h o) * 2 ^ h ≤ n
+    → ((x : ℕ) → at ≤ x → x < at + groupOf h o → x / t ≡ y)
     → all (free h n m) (2 ^ o) (at * 2 ^ h) ≡ entriesAre (2 ^ h) (m .entries) at (groupOf h o)
-groups-free {h} {n} {t} {m} H c at o l ends =
+groups-free {h} {n} {t} {m} H c at o l ends own =
     group-is-huge-frames h n m at o l ∙ all-same (entirely h n m (2 ^ h)) (λ x. eqb (entryOf (m .entries) x) (2 ^ h)) (groupOf h o) at (λ x a b.
     let below : (x + 1) * 2 ^ h ≤ (at + groupOf h o) * 2 ^ h = mul-le-mul-right (2 ^ h) (omega arith) in
-    entry-tells H c x (present-entry h n t x (tree-pos t (c .sized .tree)) (omega (arith, pow-pos h))))
+    entry-tells H c x (own x a b) (present-entry h n t x (tree-pos t (c .sized .tree)) (omega (arith, pow-pos h))))

@@ -1,4 +1,4 @@
--- A get without a frame from the huge order up, on a consistent state: it takes the first free block in its search order, or there is none. Assumes nothing.
+-- A get without a frame from the huge order up, in a consistent tree: it takes the first free block in its search order, or there is none. Assumes nothing.
 use mathlib.Core.Path.{_≡_, refl, sym, ap, _∙_}
 use mathlib.Core.Bool.{Bool, true, false}
 use mathlib.Core.Logic.{_⊎_, inl, inr}
@@ -15,15 +15,15 @@ use Rattle.base.specs.Size.{Huge, rowsPer}
 use Rattle.base.proofs.Tests.{both}
 use Rattle.base.proofs.Walks.{all-each, first-hit, first-before}
 use Rattle.rules.specs.declared.Got.{Got}
-use Rattle.rules.specs.Numbers.{mark, hugeOf, treeLog, entriesNeeded, groupOf}
+use Rattle.rules.specs.Numbers.{mark, hugeOf, treeOf, treeLog, entriesNeeded, groupOf}
 use Rattle.rules.specs.State.{Mem, entryOf, onEntries, entriesAre, withEntries}
 use Rattle.rules.specs.Refusals.{startRefusal}
 use Rattle.rules.specs.Get.{got, groupAt, getHuge, get}
 use Rattle.rules.proofs.Numbers.{tree-of-huge, tree-by-rows, block-begins}
 use Rattle.rules.proofs.Lent.{started, started-exactly}
-use Rattle.rules.proofs.GroupSteps.{group-frames, block-group, group-block, Tree, groups-are, tree-some, group-even, group-tree, group-ends, start-groups}
+use Rattle.rules.proofs.GroupSteps.{group-frames, block-group, group-block, Tree, groups-are, tree-some, group-even, group-tree, group-ends, group-here, start-groups}
 use Rattle.rules.proofs.GroupCases.{take-done, get-found, get-none}
-use Rattle.rules.specs.Consistent.{Consistent, free}
+use Rattle.rules.specs.Consistent.{ConsistentIn, free}
 use Rattle.rules.specs.Exact.{round, rank, Candidate, Missed, First}
 use Rattle.rules.proofs.Effects.{Took}
 use Rattle.rules.proofs.Rings.{steps-low}
@@ -36,7 +36,8 @@ get-is-huge : (h n t : ℕ) (m : Mem) (row o : ℕ) → startRefusal h n t m row
 unfolding get
 get-is-huge h n t m row o e l = rw (eq-eqb (startRefusal h n t m row o) 0 e, le-ltb o h l)
 
-module _ {h n t : ℕ} {m : Mem} (H : Huge h) (c : Consistent h n t m) (row o : ℕ) (begins : startRefusal h n t m row o ≡ 0) (l : h ≤ o) where
+module _ {h n t : ℕ} {m : Mem} {y : ℕ} (H : Huge h) (c : ConsistentIn h n t m y) (row o : ℕ) (own : treeOf h t (row * 64) ≡ y) (begins : startRefusal h n t m row o ≡ 0)
+    (l : h ≤ o) where
   abbrev g : ℕ
   g = groupOf h o
 
@@ -53,6 +54,10 @@ module _ {h n t : ℕ} {m : Mem} (H : Huge h) (c : Consistent h n t m) (row o : 
   tree : Tree t g x (x / t * t) (2 ^ (h + treeLog t - o)) (entriesNeeded h n t)
   tree = start-groups H (started-exactly (started h n t _ row o begins)) l
 
+  -- each huge frame of such a group is in tree y
+  visit-own : (j z : ℕ) → at j ≤ z → z < at j + g → z / t ≡ y
+  visit-own j z low high = group-here tree j (at j) refl z low high ∙ sym (tree-by-rows t row H) ∙ own
+
   -- ---- each block is a group that is visited
 
   module _ {f : ℕ} (b : Candidate h n t row o f) where
@@ -64,27 +69,28 @@ module _ {h n t : ℕ} {m : Mem} (H : Huge h) (c : Consistent h n t m) (row o : 
 
     its-frames : all (free h n m) (2 ^ o) f ≡ groupFree (round h t row o f / g)
     its-frames =
-        let q : at (round h t row o f / g) * 2 ^ h ≡ f = ap (λ (y : ℕ). y * 2 ^ h) its-group ∙ block-begins h f o l (b .aligned) in
-        ap (all (free h n m) (2 ^ o)) (sym q) ∙ groups-free H c (at (round h t row o f / g)) o l (omega (arith, b .ends, group-frames h (at (round h t row o f / g)) o l))
+        let j = round h t row o f / g in
+        let q : at j * 2 ^ h ≡ f = ap (λ (x : ℕ). x * 2 ^ h) its-group ∙ block-begins h f o l (b .aligned) in
+        ap (all (free h n m) (2 ^ o)) (sym q) ∙ groups-free H c (at j) o l (omega (arith, b .ends, group-frames h (at j) o l)) (visit-own j)
 
   -- ---- each group that is visited and free is a block
 
   -- an entry that says that its huge frame is free says that it lies wholly below N
-  full-below : (y : ℕ) → y < entriesNeeded h n t → eqb (entryOf (m .entries) y) (2 ^ h) ≡ true → (y + 1) * 2 ^ h ≤ n
-  full-below y u e =
-      let f = y * 2 ^ h + (2 ^ h - 1) in
-      let last : free h n m f ≡ true = all-each (free h n m) (2 ^ h) (y * 2 ^ h) (entry-tells H c y u ∙ e) f (omega arith) (omega (arith, pow-pos h)) in
+  full-below : (z : ℕ) → z / t ≡ y → z < entriesNeeded h n t → eqb (entryOf (m .entries) z) (2 ^ h) ≡ true → (z + 1) * 2 ^ h ≤ n
+  full-below z here u e =
+      let f = z * 2 ^ h + (2 ^ h - 1) in
+      let last : free h n m f ≡ true = all-each (free h n m) (2 ^ h) (z * 2 ^ h) (entry-tells H c z here u ∙ e) f (omega arith) (omega (arith, pow-pos h)) in
       let below : f < n = ltb-true f n (both (ltb f n) _ last .0) in
       omega (arith, pow-pos h)
 
   module _ (j : ℕ) (e : groupFree j ≡ true) where
     free-ends : (at j + g) * 2 ^ h ≤ n
     free-ends =
-        let y = at j + (g - 1) in
+        let z = at j + (g - 1) in
         let wide : 0 < g = tree .wide in
         let needed : at j + g ≤ entriesNeeded h n t = omega (arith, group-ends tree j (at j) refl, tree .ends) in
         let k : at j + g ≡ at j + (g - 1) + 1 = omega arith in
-        rw k (full-below y (omega arith) (all-each (λ i. eqb (entryOf (m .entries) i) (2 ^ h)) g (at j) e y (omega arith) (omega arith)))
+        rw k (full-below z (visit-own j z (omega arith) (omega arith)) (omega arith) (all-each (λ i. eqb (entryOf (m .entries) i) (2 ^ h)) g (at j) e z (omega arith) (omega arith)))
 
     free-block : Candidate h n t row o (at j * 2 ^ h)
     free-block = record {
@@ -126,7 +132,7 @@ module _ {h n t : ℕ} {m : Mem} (H : Huge h) (c : Consistent h n t m) (row o : 
         get-is-huge h n t m row o begins l ∙ ap (onEntries m) (sym (get-found h n t (m .entries) row o g x (t / g) passed refl refl refl refl u taken))
 
     took : Took h n t m (get h n t m row o .left) a o
-    took = rw get-is (group-taken H c (at passed) o l (free-ends passed hit) hit)
+    took = rw get-is (group-taken H c (at passed) o l (free-ends passed hit) (visit-own passed) hit)
 
     -- a block whose turn comes earlier was passed
     earlier : (f : ℕ) → rank h t row o f < rank h t row o a → round h t row o f / g < passed
@@ -148,9 +154,9 @@ module _ {h n t : ℕ} {m : Mem} (H : Huge h) (c : Consistent h n t m) (row o : 
     frame-is = rw get-is
 
 -- it finds no free block and there is none, or it takes the first
-pub get-above : {h n t : ℕ} {m : Mem} → Huge h → Consistent h n t m → (row o : ℕ) → startRefusal h n t m row o ≡ 0 → h ≤ o
+pub get-above : {h n t : ℕ} {m : Mem} {y : ℕ} → Huge h → ConsistentIn h n t m y → (row o : ℕ) → treeOf h t (row * 64) ≡ y → startRefusal h n t m row o ≡ 0 → h ≤ o
     → Missed h n t m row o ⊎ (First h n t m row o (get h n t m row o .answer .frame) × Took h n t m (get h n t m row o .left) (get h n t m row o .answer .frame) o)
-get-above {h} {t = t} H c row o e l = elim (decLt (passed H c row o e l) (t / groupOf h o)) [
-  | yes u ↦ inr (rw (frame-is H c row o e l u) (found H c row o e l u, took H c row o e l u))
-  | no u ↦ inl (missed H c row o e l (omega arith))
+get-above {h} {t = t} H c row o own e l = elim (decLt (passed H c row o own e l) (t / groupOf h o)) [
+  | yes u ↦ inr (rw (frame-is H c row o own e l u) (found H c row o own e l u, took H c row o own e l u))
+  | no u ↦ inl (missed H c row o own e l (omega arith))
 ]

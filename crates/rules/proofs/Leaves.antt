@@ -1,6 +1,6 @@
 -- What a call leaves, on any memory: the memory as it was, or that with one block, group of entries or all of it rewritten. Assumes nothing.
 use mathlib.Core.Path.{_≡_, refl}
-use mathlib.Core.Bool.{true, false, _&&_}
+use mathlib.Core.Bool.{Bool, true, false, _&&_}
 use mathlib.Core.List.{List, [], _∷_}
 use Prim.Native.Nat.{ℕ, _+_, _-_, _*_, _/_, _^_, _≤_, _<_}
 use lib.Dec.{eqb, leb, ltb}
@@ -23,18 +23,17 @@ use Rattle.rules.specs.declared.Visit.{Visit}
 use Rattle.rules.specs.declared.Visit.the-variants.{Pass, Damage, Place}
 use Rattle.rules.specs.declared.Recovered.{Recovered}
 use Rattle.rules.specs.Recover.{recoverable, mended, recoverAll, recover}
-use Rattle.rules.specs.Call.{BlockCall, FrameCall, AllCall, Call, gotNumbers, called, left}
+use Rattle.rules.specs.Call.{RowCall, BlockCall, FrameCall, AllCall, Call, gotNumbers, called, left}
+use Rattle.rules.specs.Marks.{remarked}
 
 -- a call, the numbers that it answers and the memory that it leaves
 pub data Leaves (h n t : ℕ) (m : Mem) : Call → List ℕ → Mem → Type 0 where
   refused : {c : Call} {k : ℕ} {ks : List ℕ} → (k ≡ 0 → ⊥) → Leaves h n t m c (k ∷ ks) m
-  asked-block : {f o : ℕ} {ks : List ℕ} → Leaves h n t m (Call.OnBlock BlockCall.IsFree f o) ks m
-  asked-frame : {c : FrameCall} {f : ℕ} {ks : List ℕ} → Leaves h n t m (Call.OnFrame c f) ks m
-  asked-all : {c : AllCall} {ks : List ℕ} → Leaves h n t m (Call.OnAll c) ks m
+  asked : {c : Call} {ks : List ℕ} → ((x : ℕ) (was : Bool) → remarked h c ks x was ≡ was) → Leaves h n t m c ks m
   got-block : (row o j f p : ℕ) → startRefusal h n t m row o ≡ 0 → o < h → visit h n m row o (entryAt t (row / rowsPer h) j) ≡ Place f
-      → Leaves h n t m (Call.Get row o) (0 ∷ f ∷ p ∷ []) (taken h m f o)
+      → Leaves h n t m (Call.OnRow RowCall.Get row o) (0 ∷ f ∷ p ∷ []) (taken h m f o)
   got-group : (row o j p : ℕ) → startRefusal h n t m row o ≡ 0 → h ≤ o → (groupAt t (groupOf h o) (row / rowsPer h) j + groupOf h o) * 2 ^ h ≤ n
-      → Leaves h n t m (Call.Get row o) (0 ∷ groupAt t (groupOf h o) (row / rowsPer h) j * 2 ^ h ∷ p ∷ [])
+      → Leaves h n t m (Call.OnRow RowCall.Get row o) (0 ∷ groupAt t (groupOf h o) (row / rowsPer h) j * 2 ^ h ∷ p ∷ [])
       (withEntries m (written (λ i. mark) (m .entries) (groupAt t (groupOf h o) (row / rowsPer h) j) (groupOf h o)))
   took-block : (f o : ℕ) → blockRefusal h n t m f o ≡ 0 → o < h → 2 ^ o ≤ freeOf (entryOf (m .entries) (hugeOf h f))
       → Leaves h n t m (Call.OnBlock BlockCall.GetAt f o) (0 ∷ f ∷ 1 ∷ []) (taken h m f o)
@@ -73,34 +72,34 @@ module _ (h n t : ℕ) (m : Mem) where
   -- ---- get without a frame
 
   module _ (row o : ℕ) (s : startRefusal h n t m row o ≡ 0) where
-    ended-leaves : o < h → (j p : ℕ) (v : Visit) → visit h n m row o (entryAt t (row / rowsPer h) j) ≡ v → LeavesGot (Call.Get row o) (ended h m o p v)
+    ended-leaves : o < h → (j p : ℕ) (v : Visit) → visit h n m row o (entryAt t (row / rowsPer h) j) ≡ v → LeavesGot (Call.OnRow RowCall.Get row o) (ended h m o p v)
     ended-leaves l j p Pass e = refused seven
     ended-leaves l j p Damage e = refused eight
     ended-leaves l j p (Place f) e = got-block row o j f p s l e
 
-    small-leaves : o < h → LeavesGot (Call.Get row o) (getSmall h n t m row o)
+    small-leaves : o < h → LeavesGot (Call.OnRow RowCall.Get row o) (getSmall h n t m row o)
     unfolding getSmall
     small-leaves l =
         let j = visitsPassed h n t m row o in
-        pick-case (LeavesGot (Call.Get row o)) (ltb j t)
+        pick-case (LeavesGot (Call.OnRow RowCall.Get row o)) (ltb j t)
         (λ _. ended-leaves l j (j + 1) (visit h n m row o (entryAt t (row / rowsPer h) j)) refl) (λ _. refused seven)
 
-    huge-leaves : h ≤ o → EntriesGot (Call.Get row o) (getHuge h n t (m .entries) row o)
+    huge-leaves : h ≤ o → EntriesGot (Call.OnRow RowCall.Get row o) (getHuge h n t (m .entries) row o)
     unfolding getHuge takeGroup
     huge-leaves l =
         let g = groupOf h o in
         let j = groupsPassed h (m .entries) t g (row / rowsPer h) in
         let at = groupAt t g (row / rowsPer h) j in
-        pick-case (EntriesGot (Call.Get row o)) (ltb j (t / g))
-        (λ _. pick-case (EntriesGot (Call.Get row o)) (leb ((at + g) * 2 ^ h) n)
+        pick-case (EntriesGot (Call.OnRow RowCall.Get row o)) (ltb j (t / g))
+        (λ _. pick-case (EntriesGot (Call.OnRow RowCall.Get row o)) (leb ((at + g) * 2 ^ h) n)
         (λ e. got-group row o j _ s l (leb-true ((at + g) * 2 ^ h) n e)) (λ _. refused eight))
         (λ _. refused seven)
 
-  get-leaves : (row o : ℕ) → LeavesGot (Call.Get row o) (get h n t m row o)
+  get-leaves : (row o : ℕ) → LeavesGot (Call.OnRow RowCall.Get row o) (get h n t m row o)
   unfolding get
   get-leaves row o =
-      pick-case (LeavesGot (Call.Get row o)) (eqb (startRefusal h n t m row o) 0)
-      (λ e. pick-case (LeavesGot (Call.Get row o)) (ltb o h)
+      pick-case (LeavesGot (Call.OnRow RowCall.Get row o)) (eqb (startRefusal h n t m row o) 0)
+      (λ e. pick-case (LeavesGot (Call.OnRow RowCall.Get row o)) (ltb o h)
       (λ l. small-leaves row o (eqb-true _ 0 e) (ltb-true o h l)) (λ l. huge-leaves row o (eqb-true _ 0 e) (ltb-false o h l)))
       (λ e. refused (eqb-false _ 0 e))
 
@@ -165,20 +164,23 @@ module _ (h n t : ℕ) (m : Mem) where
   unfolding recover recoverAll
   recover-leaves =
       pick-case LeavesRecovered (eqb (sizesRefusal h n t m) 0)
-      (λ e. pick-case LeavesRecovered (recoverable h n t m) (λ _. recovered (eqb-true _ 0 e)) (λ _. asked-all))
-      (λ _. asked-all)
+      (λ e. pick-case LeavesRecovered (recoverable h n t m) (λ _. recovered (eqb-true _ 0 e)) (λ _. refused eight))
+      (λ e. refused (eqb-false _ 0 e))
 
   -- ---- all calls
 
   pub leaves : (c : Call) → Leaves h n t m c (called h n t m c .answer) (left h n t m c)
-  unfolding called
-  leaves (Call.Get row o) = get-leaves row o
+  unfolding called remarked
+  leaves (Call.OnRow RowCall.Get row o) = get-leaves row o
+  leaves (Call.OnRow RowCall.WhyGet row o) = asked (λ x was. refl)
   leaves (Call.OnBlock BlockCall.GetAt f o) = get-at-leaves f o
   leaves (Call.OnBlock BlockCall.Put f o) = put-leaves f o
-  leaves (Call.OnBlock BlockCall.IsFree f o) = asked-block
-  leaves (Call.OnFrame (FrameCall.StatsAt o) f) = asked-frame
-  leaves (Call.OnFrame FrameCall.Room f) = asked-frame
-  leaves (Call.OnFrame FrameCall.TreeRun f) = asked-frame
-  leaves (Call.OnAll AllCall.Stats) = asked-all
-  leaves (Call.OnAll AllCall.Audit) = asked-all
+  leaves (Call.OnBlock BlockCall.IsFree f o) = asked (λ x was. refl)
+  leaves (Call.OnBlock BlockCall.WhyGetAt f o) = asked (λ x was. refl)
+  leaves (Call.OnBlock BlockCall.WhyPut f o) = asked (λ x was. refl)
+  leaves (Call.OnFrame (FrameCall.StatsAt o) f) = asked (λ x was. refl)
+  leaves (Call.OnFrame FrameCall.Room f) = asked (λ x was. refl)
+  leaves (Call.OnFrame FrameCall.TreeRun f) = asked (λ x was. refl)
+  leaves (Call.OnAll AllCall.Stats) = asked (λ x was. refl)
+  leaves (Call.OnAll AllCall.Audit) = asked (λ x was. refl)
   leaves (Call.OnAll AllCall.Recover) = recover-leaves

@@ -116,7 +116,7 @@ module _ {h n t : ℕ} {len : Lengths} {f : ℕ} (H : Huge h) (b : Framed h n t 
 
 module _ {h n t : ℕ} {len : Lengths} {f o : ℕ} (H : Huge h) (b : Blocked h n t len f o) where
   -- its first frame
-  at-first : Framed h n t len f
+  pub at-first : Framed h n t len f
   at-first = record { sized = b .sized; below = omega (arith, b .ends, pow-pos o) }
 
   pub block-entry : f / 2 ^ h < len .entries

@@ -32,6 +32,7 @@ pub mod Smalls
 pub mod Splits
 pub mod Starts
 pub mod TreeAsks
+pub mod TreeWhys
 pub mod Unread
 pub mod TreeHuge
 pub mod TreeParts
@@ -58,3 +59,10 @@ pub mod GetSteps
 pub mod BlockTurns
 pub mod VisitSteps
 pub mod Returns
+pub mod WhyBlocks
+pub mod WhyEntries
+pub mod WhyReasons
+pub mod WhyFrames
+pub mod Whys
+pub mod Lowest
+pub mod WhyTests

@@ -27,7 +27,7 @@ use Rattle.rules.specs.declared.Visit.the-variants.{Place}
 use Rattle.rules.specs.Recover.{mended}
 use Rattle.rules.specs.Starts as starts
 use Rattle.rules.specs.Starts.{freeEntry, heldEntry, freeAll, reserveAll}
-use Rattle.rules.specs.Call.{BlockCall, Call}
+use Rattle.rules.specs.Call.{RowCall, BlockCall, Call}
 use Rattle.rules.specs.Consistent.{Fits}
 use Rattle.rules.specs.Marks.{marked, meets, remarked, MarksMove}
 use Rattle.rules.proofs.Numbers.{tree-pos, block-begins}
@@ -39,7 +39,7 @@ use Rattle.rules.proofs.GetSteps.{found-block}
 use Rattle.rules.proofs.GroupSteps.{group-frames}
 use Rattle.rules.proofs.Entries.{whole-not-mark}
 use Rattle.rules.proofs.Mended.{entries-beyond, mended-mark, mended-count}
-use Rattle.rules.proofs.Leaves.{Leaves, refused, asked-block, asked-frame, asked-all, got-block, got-group, took-block, took-group, gave-block, gave-part, gave-group, recovered, leaves}
+use Rattle.rules.proofs.Leaves.{Leaves, refused, asked, got-block, got-group, took-block, took-group, gave-block, gave-part, gave-group, recovered, leaves}
 
 -- ---- which huge frames a block meets
 
@@ -135,10 +135,13 @@ removed false was = sym (and-true was)
 -- a refused call neither adds nor takes away
 refused-stays : (h : ℕ) (c : Call) (k : ℕ) (ks : List ℕ) → (k ≡ 0 → ⊥) → (x : ℕ) (was : Bool) → remarked h c (k ∷ ks) x was ≡ was
 unfolding remarked
-refused-stays h (Call.Get row o) k ks q x was = rw (ne-eqb k 0 q, and-false) (or-false was)
+refused-stays h (Call.OnRow RowCall.Get row o) k ks q x was = rw (ne-eqb k 0 q, and-false) (or-false was)
+refused-stays h (Call.OnRow RowCall.WhyGet row o) k ks q x was = refl
 refused-stays h (Call.OnBlock BlockCall.GetAt a o) k ks q x was = rw (ne-eqb k 0 q, and-false) (or-false was)
 refused-stays h (Call.OnBlock BlockCall.Put a o) k ks q x was = rw (ne-eqb k 0 q) (and-true was)
 refused-stays h (Call.OnBlock BlockCall.IsFree a o) k ks q x was = refl
+refused-stays h (Call.OnBlock BlockCall.WhyGetAt a o) k ks q x was = refl
+refused-stays h (Call.OnBlock BlockCall.WhyPut a o) k ks q x was = refl
 refused-stays h (Call.OnFrame c a) k ks q x was = refl
 refused-stays h (Call.OnAll c) k ks q x was = refl
 
@@ -146,9 +149,7 @@ module _ {h n t : ℕ} (H : Huge h) {m : Mem} (fits : Fits m) where
   leaves-marks : {c : Call} {ks : List ℕ} {after : Mem} → Leaves h n t m c ks after → (x : ℕ) → marked after x ≡ remarked h c ks x (marked m x)
   unfolding remarked
   leaves-marks (refused {c} {k} {ks} q) x = sym (refused-stays h c k ks q x (marked m x))
-  leaves-marks asked-block x = refl
-  leaves-marks asked-frame x = refl
-  leaves-marks asked-all x = refl
+  leaves-marks (asked stays) x = sym (stays x (marked m x))
   leaves-marks (got-block row o j f p s l e) x =
       let at = entryAt t (row / rowsPer h) j in
       let k = visit-free H n (m .rows) (m .entries) row o at f e in

@@ -18,7 +18,7 @@ use Rattle.base.proofs.Walks.{all-each}
 use Rattle.rules.specs.Numbers.{hugeOf}
 use Rattle.rules.specs.State.{Mem}
 use Rattle.rules.specs.declared.Recovered.{Recovered}
-use Rattle.rules.specs.Call.{BlockCall, FrameCall, AllCall, Call, called, left}
+use Rattle.rules.specs.Call.{RowCall, BlockCall, FrameCall, AllCall, Call, called, left}
 use Rattle.rules.specs.Consistent.{Consistent, free, held, inBlock}
 use Rattle.rules.specs.Marks.{meets, remarked}
 use Rattle.rules.specs.Runs.{noted}
@@ -48,7 +48,7 @@ module _ {h n t : ℕ} {m : Mem} (k : Consistent h n t m) (c : Call) where
   takes-block code a o does notes = ⊎-elim
       (λ r. stays (r .1) (λ f was. notes f was ∙ rw (ne-eqb code 0 (r .0)) (or-false was)))
       (λ r. record {
-        consistent = r .1 .consistent;
+        consistent = λ y. r .1 .keeps y (k y);
         frames = λ f. rw (r .1 .taken .is f, done (r .0) f (held h n m f)) (toggled (free h n m f) (inBlock a o f));
         takes-free = λ f q.
             let i = both (leb a f) (ltb f (a + 2 ^ o)) (sym (done (r .0) f false) ∙ q) in
@@ -68,7 +68,7 @@ module _ {h n t : ℕ} {m : Mem} (k : Consistent h n t m) (c : Call) where
   gives-block code a o does notes = ⊎-elim
       (λ r. stays (r .1) (λ f was. notes f was ∙ rw (ne-eqb code 0 (r .0)) (and-true was)))
       (λ r. record {
-        consistent = r .1 .consistent;
+        consistent = λ y. r .1 .keeps y (k y);
         frames = λ f. rw (r .1 .given .is f, done (r .0) f (held h n m f)) (not-either (free h n m f) (inBlock a o f));
         takes-free = λ f q. absurd (false≢true (sym (done (r .0) f false) ∙ q));
       })
@@ -80,10 +80,13 @@ module _ {h n t : ℕ} {m : Mem} (k : Consistent h n t m) (c : Call) where
 -- every call does so to a consistent state
 pub calls-move : (h n t : ℕ) (m : Mem) (c : Call) → Huge h → Consistent h n t m → Moves h n t m c
 unfolding called noted
-calls-move h n t m (Call.Get row o) H k = takes-block k (Call.Get row o) _ _ _ (get-does H k row o) (λ f was. refl)
-calls-move h n t m (Call.OnBlock BlockCall.GetAt a o) H k = takes-block k (Call.OnBlock BlockCall.GetAt a o) _ _ _ (get-at-does H k a o) (λ f was. refl)
-calls-move h n t m (Call.OnBlock BlockCall.Put a o) H k = gives-block k (Call.OnBlock BlockCall.Put a o) _ _ _ (put-does H k a o) (λ f was. refl)
+calls-move h n t m (Call.OnRow RowCall.Get row o) H k = takes-block k (Call.OnRow RowCall.Get row o) _ _ _ (get-does H (k _) row o refl) (λ f was. refl)
+calls-move h n t m (Call.OnRow RowCall.WhyGet row o) H k = stays k (Call.OnRow RowCall.WhyGet row o) refl (λ f was. refl)
+calls-move h n t m (Call.OnBlock BlockCall.GetAt a o) H k = takes-block k (Call.OnBlock BlockCall.GetAt a o) _ _ _ (get-at-does H (k _) a o refl) (λ f was. refl)
+calls-move h n t m (Call.OnBlock BlockCall.Put a o) H k = gives-block k (Call.OnBlock BlockCall.Put a o) _ _ _ (put-does H (k _) a o refl) (λ f was. refl)
 calls-move h n t m (Call.OnBlock BlockCall.IsFree a o) H k = stays k (Call.OnBlock BlockCall.IsFree a o) refl (λ f was. refl)
+calls-move h n t m (Call.OnBlock BlockCall.WhyGetAt a o) H k = stays k (Call.OnBlock BlockCall.WhyGetAt a o) refl (λ f was. refl)
+calls-move h n t m (Call.OnBlock BlockCall.WhyPut a o) H k = stays k (Call.OnBlock BlockCall.WhyPut a o) refl (λ f was. refl)
 calls-move h n t m (Call.OnFrame (FrameCall.StatsAt o) a) H k = stays k (Call.OnFrame (FrameCall.StatsAt o) a) refl (λ f was. refl)
 calls-move h n t m (Call.OnFrame FrameCall.Room a) H k = stays k (Call.OnFrame FrameCall.Room a) refl (λ f was. refl)
 calls-move h n t m (Call.OnFrame FrameCall.TreeRun a) H k = stays k (Call.OnFrame FrameCall.TreeRun a) refl (λ f was. refl)
@@ -126,11 +129,14 @@ module _ (h : ℕ) where
   -- so a call that neither takes nor gives back a frame of a huge frame leaves its mark
   pub mark-stays : (c : Call) (r : List ℕ) (x : ℕ) → ((f : ℕ) → hugeOf h f ≡ x → (was : Bool) → noted c r f was ≡ was) → (was : Bool) → remarked h c r x was ≡ was
   unfolding remarked noted
-  mark-stays (Call.Get row o) r x same was =
+  mark-stays (Call.OnRow RowCall.Get row o) r x same was =
       rw (unmet (eqb (getD r 0 0) 0) (getD r 1 0) o x (λ f u. same f u false), and-false) (or-false was)
+  mark-stays (Call.OnRow RowCall.WhyGet row o) r x same was = refl
   mark-stays (Call.OnBlock BlockCall.GetAt a o) r x same was =
       rw (unmet (eqb (getD r 0 0) 0) (getD r 1 0) o x (λ f u. same f u false), and-false) (or-false was)
   mark-stays (Call.OnBlock BlockCall.Put a o) r x same was = rw (unmet (eqb (getD r 0 0) 0) a o x (λ f u. not-true _ (same f u true))) (and-true was)
   mark-stays (Call.OnBlock BlockCall.IsFree a o) r x same was = refl
+  mark-stays (Call.OnBlock BlockCall.WhyGetAt a o) r x same was = refl
+  mark-stays (Call.OnBlock BlockCall.WhyPut a o) r x same was = refl
   mark-stays (Call.OnFrame c a) r x same was = refl
   mark-stays (Call.OnAll c) r x same was = refl

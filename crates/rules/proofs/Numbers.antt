@@ -2,7 +2,7 @@
 use mathlib.Core.Path.{_≡_, refl, sym, ap, _∙_}
 use mathlib.Core.Bool.{true}
 use Prim.Native.Nat.{ℕ, _+_, _-_, _*_, _/_, _%_, _^_, _≤_, _<_}
-use native.Mathlib.Nat.{mul-comm, mul-pos, mul-div-cancel, zero-mod, div-add-mod', div-div-eq-div-mul, div-lt-iff-lt-mul, lt-div-mul-add}
+use native.Mathlib.Nat.{mul-comm, mul-pos, mul-div-cancel, zero-mod, div-add-mod', div-div-eq-div-mul, div-lt-iff-lt-mul, div-mul-le-self, lt-div-mul-add}
 use native.Mathlib.Omega.{arith}
 use lib.Dec.{eqb, lit<}
 use lib.Pow.{pow-pos, pow-lt, pow-mono}
@@ -55,6 +55,10 @@ tree-of-huge h t f = sym (div-div-eq-div-mul f (2 ^ h) t)
 
 pub tree-by-rows : {h : ℕ} (t row : ℕ) → Huge h → treeOf h t (row * 64) ≡ row / rowsPer h / t
 tree-by-rows {h} t row H = tree-of-huge h t (row * 64) ∙ ap (λ (x : ℕ). x / t) (huge-by-rows row H)
+
+-- the huge frames of a tree
+pub tree-ends : (t x y : ℕ) → 0 < t → x / t ≡ y → (y * t ≤ x) × (x < y * t + t)
+tree-ends t x y p e = rw (← e) (div-mul-le-self x t, lt-div-mul-add p)
 
 -- ---- how much is lent
 

@@ -1,6 +1,6 @@
 -- One tree at a time: what a call on a tree answers and leaves there goes by that tree's rows and entries alone. Assumes nothing.
 use mathlib.Core.Path.{_≡_, sym, ap, ap₂, _∙_}
-use mathlib.Core.Bool.{false}
+use mathlib.Core.Bool.{Bool, false}
 use mathlib.Core.List.{List, [], _∷_}
 use Prim.Native.Nat.{ℕ, _+_, _*_, _/_, _≤_, _<_}
 use native.Mathlib.Nat.{div-mul-le-self}
@@ -9,10 +9,10 @@ use lib.Dec.{eqb, ltb}
 use lib.ListN.{replicate}
 use borrow.Author.Tests.{eqb-true, ltb-true, ltb-false}
 use Rattle.base.specs.Walk.{pick}
-use Rattle.base.specs.Code.{Out, out, orElse, unrefused}
+use Rattle.base.specs.Code.{Out, out, unless, orElse, unrefused}
 use Rattle.base.specs.Size.{rowsPer}
 use Rattle.base.proofs.Walks.{pick-both}
-use Rattle.base.proofs.Codes.{answer-alike}
+use Rattle.base.proofs.Codes.{none-of, answer-alike}
 use Rattle.bitfield_rules.specs.Calls.{answered}
 use Rattle.rules.specs.declared.Got.{Got}
 use Rattle.rules.specs.Numbers.{hugeOf, treeOf, groupOf}
@@ -25,14 +25,17 @@ use Rattle.rules.proofs.Lent.{sized, sized-passes, blocked, started, fr
 use Rattle.rules.proofs.GroupSteps.{group-in-tree}
 use Rattle.bitfield_rules.specs.declared.Answered.{Answered}
 use Rattle.rules.specs.Put.{put}
+use Rattle.rules.specs.declared.Why.{Why}
+use Rattle.rules.specs.Why.{why, sound, told, whyGet, whyGetAt, whyPut}
 use Rattle.rules.specs.Room.{orders, room, treeRun}
-use Rattle.rules.specs.Call.{BlockCall, FrameCall, AllCall, Call, statsNumbers, gotNumbers, called}
+use Rattle.rules.specs.Call.{RowCall, BlockCall, FrameCall, AllCall, Call, statsNumbers, gotNumbers, whyNumbers, called}
 use Rattle.rules.specs.OneTree.{On, OneTree}
 use Rattle.rules.proofs.OtherTrees.{other-trees}
 use Rattle.rules.proofs.TreeParts.{Agreeing, Alike, same-alike, pick-alike}
 use Rattle.rules.proofs.TreeSmall.{get-small-alike, get-small-at-alike, put-small-alike, is-free-small-alike}
 use Rattle.rules.proofs.TreeHuge.{get-huge-alike, get-huge-at-alike, put-huge-alike, is-free-huge-alike}
 use Rattle.rules.proofs.TreeAsks.{at-order-alike, room-alike, run-alike}
+use Rattle.rules.proofs.TreeWhys.{sound-alike, get-reason-alike, get-at-reason-alike, put-reason-alike}
 
 module _ {h n t y : ℕ} {a b : Mem} (w : Agreeing h n t y a b) where
   -- a call that is refused by one code, or done below the huge order, or from there on
@@ -49,6 +52,11 @@ module _ {h n t y : ℕ} {a b : Mem} (w : Agreeing h n t y a b) where
   code-alike : (rest : ℕ) → orElse (sizesRefusal h n t a) rest ≡ orElse (sizesRefusal h n t b) rest
   code-alike rest = ap (λ (c : ℕ). orElse c rest) (sized-passes (w .sized) ∙ sym (sized-passes (w .other)))
 
+  -- why a request is turned down, by its refusals and the tree alone
+  told-alike : {c d : ℕ} {v z : Why} → c ≡ d → (c ≡ 0 → v ≡ z) → told c (sound h n t a y) v ≡ told d (sound h n t b y) z
+  told-alike {c} e f =
+      answer-alike (λ k. why k 0 0) (ap₂ (λ (k : ℕ) (s : Bool). orElse k (unless s 8)) e (sound-alike w)) (λ q. f (none-of c (unless (sound h n t a y) 8) q .0))
+
   -- ---- get without a frame
 
   module _ (row o : ℕ) (here : treeOf h t (row * 64) ≡ y) where
@@ -63,6 +71,10 @@ module _ {h n t y : ℕ} {a b : Mem} (w : Agreeing h n t y a b) where
     get-alike =
         done-alike (λ c. got c 0 0) o start-alike (λ _ _. get-small-alike w row o start-here)
         (λ z l. get-huge-alike w row o start-here l (started h n t _ row o z) (started h n t _ row o (sym start-alike ∙ z)))
+
+    why-get-alike : whyGet h n t a row o ≡ whyGet h n t b row o
+    unfolding whyGet
+    why-get-alike = rw here (told-alike start-alike (λ z. ap (λ (r : ℕ). why 0 r 0) (get-reason-alike w o (started h n t _ row o z .top))))
 
   -- ---- calls with a block
 
@@ -106,6 +118,14 @@ module _ {h n t y : ℕ} {a b : Mem} (w : Agreeing h n t y a b) where
         (pick-both _≡_ (ltb o h) (λ l. is-free-small-alike w f o (ltb-true o h l) (passed z .aligned) (passed z .ends) huge-here)
         (λ l. is-free-huge-alike w f o group-begins (group-ends z (ltb-false o h l)))))
 
+    why-get-at-alike : whyGetAt h n t a f o ≡ whyGetAt h n t b f o
+    unfolding whyGetAt
+    why-get-at-alike = rw here (told-alike block-alike (λ z. get-at-reason-alike w (passed z) here))
+
+    why-put-alike : whyPut h n t a f o ≡ whyPut h n t b f o
+    unfolding whyPut
+    why-put-alike = rw here (told-alike block-alike (λ z. put-reason-alike w (passed z) here))
+
   -- ---- queries of a frame
 
   module _ (f : ℕ) (here : treeOf h t f ≡ y) where
@@ -135,11 +155,14 @@ got-alike k = record { answer = ap gotNumbers (k .answer); left = k .left }
 module _ {h n t y : ℕ} {a b : Mem} (w : Agreeing h n t y a b) where
   called-alike : (c : Call) → On h t y c → Alike h n t y (called h n t a c) (called h n t b c)
   unfolding On called
-  called-alike (Call.Get row o) on = got-alike (get-alike w row o on)
+  called-alike (Call.OnRow RowCall.Get row o) on = got-alike (get-alike w row o on)
+  called-alike (Call.OnRow RowCall.WhyGet row o) on = record { answer = ap whyNumbers (why-get-alike w row o on); left = w }
   called-alike (Call.OnBlock BlockCall.GetAt f o) on = got-alike (get-at-alike w f o on)
   called-alike (Call.OnBlock BlockCall.Put f o) on = let k = put-alike w f o on in record { answer = ap (λ (c : ℕ). c ∷ []) (k .answer); left = k .left }
   called-alike (Call.OnAll AllCall.Recover) on = absurd on
   called-alike (Call.OnBlock BlockCall.IsFree f o) on = record { answer = ap (λ (r : Answered). r .code ∷ pick (r .yes) 1 0 ∷ []) (is-free-alike w f o on); left = w }
+  called-alike (Call.OnBlock BlockCall.WhyGetAt f o) on = record { answer = ap whyNumbers (why-get-at-alike w f o on); left = w }
+  called-alike (Call.OnBlock BlockCall.WhyPut f o) on = record { answer = ap whyNumbers (why-put-alike w f o on); left = w }
   called-alike (Call.OnFrame (FrameCall.StatsAt o) f) on = record { answer = ap statsNumbers (stats-at-alike w f on o); left = w }
   called-alike (Call.OnFrame FrameCall.Room f) on = record { answer = ap (λ (r : Out ℕ (List ℕ)). r .answer ∷ r .left) (room-call-alike w f on); left = w }
   called-alike (Call.OnFrame FrameCall.TreeRun f) on = record { answer = ap₂ (λ (c : ℕ) (es : List ℕ). c ∷ es) (frame-alike w f on) (tree-run-alike w f on); left = w }

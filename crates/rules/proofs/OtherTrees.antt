@@ -28,7 +28,7 @@ use Rattle.rules.proofs.VisitSteps.{visit-free}
 use Rattle.rules.specs.Call.{Call, left}
 use Rattle.rules.specs.OneTree.{Agree, On}
 use Rattle.rules.proofs.Rings.{visited-ring}
-use Rattle.rules.proofs.Leaves.{Leaves, refused, asked-block, asked-frame, asked-all, got-block, got-group, took-block, took-group, gave-block, gave-part, gave-group, recovered, leaves}
+use Rattle.rules.proofs.Leaves.{Leaves, refused, asked, got-block, got-group, took-block, took-group, gave-block, gave-part, gave-group, recovered, leaves}
 
 -- rows and entries of every tree but y are alike
 record Elsewhere (h t y : ℕ) (a b : Mem) : Type 0 where
@@ -115,9 +115,7 @@ module _ {h : ℕ} (H : Huge h) (t y : ℕ) (m : Mem) where
 call-elsewhere : {h n t y : ℕ} {m : Mem} {c : Call} {ks : List ℕ} {after : Mem} → Huge h → Leaves h n t m c ks after → On h t y c → Elsewhere h t y after m
 unfolding On
 call-elsewhere H (refused q) on = unwritten
-call-elsewhere H asked-block on = unwritten
-call-elsewhere H asked-frame on = unwritten
-call-elsewhere H asked-all on = unwritten
+call-elsewhere H (asked stays) on = unwritten
 call-elsewhere {h} {n} {t} {y} {m} H (got-block row o j f p s l e) on = found-elsewhere H t y m (started h n t _ row o s) on l j f e
 call-elsewhere {h} {n} {t} {y} {m} H (got-group row o j p s l e) on = group-found-elsewhere H t y m (started h n t _ row o s) on l j (λ i. mark)
 call-elsewhere {h} {n} {t} {y} {m} H (took-block f o b l w) on = small-elsewhere H t y m (blocked h n t _ f o b) on l true _

@@ -107,11 +107,11 @@ module _ {h n t : ℕ} {m : Mem} (H : Huge h) (fits : Fits m) (s : Sized h n t (
   }
 
   mended-consistent : Consistent h n t (mended h n m)
-  mended-consistent = record {
+  mended-consistent y = record {
     sized = mended-sized m s;
     fits = mended-fits;
-    present = λ x l. elim (ℕ-discrete (entryOf (m .entries) x) mark) [ yes k ↦ inl (mended-marked x l k) | no k ↦ inr (mended-counted x l k) ];
-    absent = λ x l u. entries-beyond h n m x (omega arith) ∙ easy-absent h n m x (easy x u) (omega arith);
+    present = λ x _ l. elim (ℕ-discrete (entryOf (m .entries) x) mark) [ yes k ↦ inl (mended-marked x l k) | no k ↦ inr (mended-counted x l k) ];
+    absent = λ x _ l u. entries-beyond h n m x (omega arith) ∙ easy-absent h n m x (easy x u) (omega arith);
   }
 
   mended-free : (f : ℕ) → free h n (mended h n m) f ≡ free h n m f
@@ -162,27 +162,27 @@ module _ {h n t : ℕ} {m : Mem} (H : Huge h) (c : Consistent h n t m) where
   consistent-recoverable : recoverable h n t m ≡ true
   unfolding recoverable
   consistent-recoverable =
-      all-of _ (entriesNeeded h n t) 0 (λ x _ l. ap (λ (r : ℕ). not (blocksRecovery r)) (consistent-reasonless H c x (omega arith)))
+      all-of _ (entriesNeeded h n t) 0 (λ x _ l. ap (λ (r : ℕ). not (blocksRecovery r)) (consistent-reasonless H (c (x / t)) x refl (omega arith)))
 
   row-stays : (i : ℕ) → i / rowsPer h * 2 ^ h < n → rowAfter h m i ≡ getD (m .rows) i 0
   row-stays i l =
       let x = i / rowsPer h in
       ⊎-elim
       (λ k. rw (eq-eqb _ _ (k .marked))
-      (sym (clear-row (m .rows) (c .fits .rows) i (λ f a b. let own = row-within H i f a b in k .clear f (own .0) (own .1)))))
+      (sym (clear-row (m .rows) (c 0 .fits .rows) i (λ f a b. let own = row-within H i f a b in k .clear f (own .0) (own .1)))))
       (λ (k : ByCount h n m x). rw (ne-eqb _ _ (no-mark H k)))
-      (c .present x l)
+      (c (x / t) .present x refl l)
 
   mended-is : mended h n m ≡ m
   unfolding mended
   mended-is =
       ap₂ mem
       (written-stays (rowAfter h m) (m .rows) 0 (rowsNeeded h n) (λ i _ l. row-stays i (row-present h n i (omega arith))))
-      (written-stays (entryAfter h m) (m .entries) 0 (ceil n (2 ^ h)) (λ x _ l. sym (entry-told H c x (low-present h n x (omega arith)))))
+      (written-stays (entryAfter h m) (m .entries) 0 (ceil n (2 ^ h)) (λ x _ l. sym (entry-told H (c (x / t)) x refl (low-present h n x (omega arith)))))
 
   none-differ : differing h m (mended h n m) ≡ recovered 0 0 0
   none-differ = ap (differing h m) mended-is ∙ ap₂ (recovered 0) (no-entries-differ (m .entries)) (no-bitfields-differ h (m .rows))
 
 pub recover-keeps-consistent : (h n t : ℕ) (m : Mem) → Huge h → Consistent h n t m → recover h n t m ≡ out (recovered 0 0 0) m
 unfolding recover recoverAll
-recover-keeps-consistent h n t m H c = rw (sized-passes (c .sized), consistent-recoverable H c) (ap₂ out (none-differ H c) (mended-is H c))
+recover-keeps-consistent h n t m H c = rw (sized-passes (c 0 .sized), consistent-recoverable H c) (ap₂ out (none-differ H c) (mended-is H c))

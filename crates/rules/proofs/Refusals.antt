@@ -5,20 +5,20 @@ use mathlib.Core.List.{List, [], _∷_}
 use Prim.Native.Nat.{ℕ, zero, suc, _+_, _*_, _^_}
 use native.Mathlib.Omega.{arith}
 use lib.Dec.{eqb, leb, ltb}
-use lib.ListN.{length, getD, replicate}
+use lib.ListN.{length, getD}
 use borrow.Author.Tests.{ne-eqb, eqb-true, lt-ltb}
-use Rattle.base.specs.Walk.{pick}
+use Rattle.base.specs.Walk.{pick, first}
 use Rattle.base.specs.Code.{Out, out, unless, orElse, stored}
 use Rattle.base.specs.Size.{Huge}
 use Rattle.base.proofs.Walks.{pick-case, pick-of, pick-both}
 use Rattle.base.proofs.Tests.{not-leb, not-ltb, not-both}
-use Rattle.base.proofs.Codes.{regrouped, or-none}
+use Rattle.base.proofs.Codes.{stops, regrouped, or-none}
 use Rattle.base.proofs.Stored.{if-refused}
 use Rattle.rules.specs.declared.Got.{Got}
 use Rattle.rules.specs.declared.Stats.{Stats}
-use Rattle.rules.specs.Numbers.{isTree, topOrder, aligned, rowsNeeded, entriesNeeded}
+use Rattle.rules.specs.Numbers.{mark, hugeOf, treeOf, isTree, topOrder, groupOf, aligned, rowsNeeded, entriesNeeded}
 use Rattle.rules.specs.Refusals.{framesCode, treeCode, sizesRefusal, blockRefusal, startRefusal, frameRefusal}
-use Rattle.rules.specs.State.{Mem}
+use Rattle.rules.specs.State.{Mem, entryOf}
 use Rattle.rules.specs.Starts as starts
 use Rattle.rules.specs.Queries.{statsAll, atOrder, isFree, stats, statsAt}
 use Rattle.bitfield_rules.specs.declared.Answered.{Answered}
@@ -30,11 +30,14 @@ use Rattle.rules.specs.Audit.{faultless, auditAll, audit}
 use Rattle.rules.specs.declared.Recovered.{Recovered}
 use Rattle.rules.specs.Recover.{recoverable, recoverAll, recover}
 use Rattle.rules.specs.Room.{room, treeRun}
-use Rattle.rules.specs.Call.{BlockCall, FrameCall, AllCall, Call, gotNumbers, statsNumbers, called, code, left}
+use Rattle.rules.specs.declared.Why.{Why}
+use Rattle.rules.specs.Consistent.{free, held}
+use Rattle.rules.specs.Why.{why, sound, told, getReason, getAtReason, putReason, whyGet, whyGetAt, whyPut}
+use Rattle.rules.specs.Call.{RowCall, BlockCall, FrameCall, AllCall, Call, gotNumbers, statsNumbers, whyNumbers, called, code, left}
 use Rattle.rules.specs.Keeps.{numberOf, tested, own, fields, Bare}
 use Rattle.rules.specs.Steps.{steps}
 use Rattle.rules.proofs.Steps.{get-steps, get-at-steps, put-steps}
-use Rattle.rules.proofs.Leaves.{Leaves, refused, asked-block, asked-frame, asked-all, got-block, got-group, took-block, took-group, gave-block, gave-part, gave-group, recovered, leaves}
+use Rattle.rules.proofs.Leaves.{Leaves, refused, asked, got-block, got-group, took-block, took-group, gave-block, gave-part, gave-group, recovered, leaves}
 
 -- ---- what a test refuses
 
@@ -90,13 +93,52 @@ module _ (h n t : ℕ) (m : Mem) where
   unfolding numberOf
   frame-tested f = sizes-then (false ∷ leb n f ∷ []) (last 4 (ltb f n) (not-ltb f n))
 
--- ---- the code of a call
+-- ---- a call refused by code c, or done
 
--- a call refused by code c, or done
+-- its code
 checked : {A : Type 0} (code : A → ℕ) {c k d : ℕ} (does refusal : A) → code refusal ≡ c → c ≡ k → (c ≡ 0 → code does ≡ d)
     → code (pick (eqb c 0) does refusal) ≡ orElse k d
 unfolding orElse
 checked code {c} does refusal q p e = rw (← p) (pick-of code (eqb c 0) does refusal ∙ pick-both _≡_ (eqb c 0) (λ z. e (eqb-true c 0 z)) (λ _. q))
+
+-- its answer, where it is refused
+bare : {A : Type 0} (say : A → List ℕ) {c k : ℕ} (does refusal : A) {rest : List ℕ} → say refusal ≡ c ∷ rest → c ≡ k → (k ≡ 0 → ⊥)
+    → say (pick (eqb c 0) does refusal) ≡ k ∷ rest
+bare say {c} does refusal {rest} q p e = rw (ne-eqb c 0 (λ z. e (sym p ∙ z))) (q ∙ ap (λ (x : ℕ). x ∷ rest) p)
+
+-- ---- why a request is turned down
+
+-- refused as the request itself, then with 8 unless s holds
+record Refuses (r : Why) (k : ℕ) (s : Bool) : Type 0 where
+  code : r .code ≡ orElse k (unless s 8)
+  fields : (k ≡ 0 → ⊥) → whyNumbers r ≡ k ∷ 0 ∷ 0 ∷ []
+
+told-refuses : {c k : ℕ} (s : Bool) (w : Why) → c ≡ k → w .code ≡ 0 → Refuses (told c s w) k s
+told-refuses s w p z = record {
+  code = checked (λ (x : Why). x .code) w _ refl (ap (λ (c : ℕ). orElse c (unless s 8)) p) (λ _. z) ∙ or-none _;
+  fields = λ e. bare whyNumbers w _ refl (sym (stops (unless s 8) (sym p) e)) e;
+}
+
+module _ (h n t : ℕ) (m : Mem) where
+  why-get : (row o : ℕ) → Refuses (whyGet h n t m row o) (tested h n t m (own h n t (Call.OnRow RowCall.WhyGet row o))) (sound h n t m (treeOf h t (row * 64)))
+  unfolding whyGet own
+  why-get row o = told-refuses (sound h n t m (treeOf h t (row * 64))) (why 0 (getReason h n t m (treeOf h t (row * 64)) o) 0) (start-tested h n t m row o) refl
+
+  why-get-at : (a o : ℕ) → Refuses (whyGetAt h n t m a o) (tested h n t m (own h n t (Call.OnBlock BlockCall.WhyGetAt a o))) (sound h n t m (treeOf h t a))
+  unfolding whyGetAt own getAtReason
+  why-get-at a o =
+      told-refuses (sound h n t m (treeOf h t a)) (getAtReason h n m a o) (block-tested h n t m a o)
+      (pick-case (λ (w : Why). w .code ≡ 0) (ltb (first (held h n m) (2 ^ o) a) (a + 2 ^ o)) (λ _. refl) (λ _. refl))
+
+  why-put : (a o : ℕ) → Refuses (whyPut h n t m a o) (tested h n t m (own h n t (Call.OnBlock BlockCall.WhyPut a o))) (sound h n t m (treeOf h t a))
+  unfolding whyPut own putReason
+  why-put a o =
+      let x = first (λ x. not (eqb (entryOf (m .entries) x) mark)) (groupOf h o) (hugeOf h a) in
+      told-refuses (sound h n t m (treeOf h t a)) (putReason h n m a o) (block-tested h n t m a o)
+      (pick-case (λ (w : Why). w .code ≡ 0) (ltb (first (free h n m) (2 ^ o) a) (a + 2 ^ o)) (λ _. refl)
+      (λ _. pick-case (λ (w : Why). w .code ≡ 0) (leb h o && ltb x (hugeOf h a + groupOf h o)) (λ _. refl) (λ _. refl)))
+
+-- ---- the code of a call
 
 module _ (h n t : ℕ) (m : Mem) where
   -- stats_at answers no code of its own
@@ -114,8 +156,9 @@ module _ (h n t : ℕ) (m : Mem) where
   module _ (H : Huge h) where
     pub call-code : (c : Call) → code h n t m c ≡ orElse (tested h n t m (own h n t c)) (steps h n t m c)
     unfolding called own steps get getAt put isFree stats statsAt statsAll audit recover room recoverAll recoverable
-    call-code (Call.Get row o) =
+    call-code (Call.OnRow RowCall.Get row o) =
         checked (λ (x : Out Got Mem). x .answer .code) _ _ refl (start-tested h n t m row o) (λ s. ap (λ (r : Got). r .code) (get-steps H n t m row o s))
+    call-code (Call.OnRow RowCall.WhyGet row o) = why-get h n t m row o .code
     call-code (Call.OnBlock BlockCall.GetAt f o) =
         checked (λ (x : Out Got Mem). x .answer .code) _ _ refl (block-tested h n t m f o) (λ _. ap (λ (r : Got). r .code) (get-at-steps h n t m f o))
     call-code (Call.OnBlock BlockCall.Put f o) =
@@ -123,6 +166,8 @@ module _ (h n t : ℕ) (m : Mem) where
     call-code (Call.OnAll AllCall.Recover) =
         checked (λ (x : Out Recovered Mem). x .answer .code) _ _ refl (sizes-tested h n t m) (λ _. pick-of (λ (x : Out Recovered Mem). x .answer .code) (recoverable h n t m) _ _)
     call-code (Call.OnBlock BlockCall.IsFree f o) = checked (λ (x : Answered). x .code) _ _ refl (block-tested h n t m f o) (λ _. refl)
+    call-code (Call.OnBlock BlockCall.WhyGetAt f o) = why-get-at h n t m f o .code
+    call-code (Call.OnBlock BlockCall.WhyPut f o) = why-put h n t m f o .code
     call-code (Call.OnFrame (FrameCall.StatsAt o) f) = checked (λ (x : Stats). x .code) _ _ refl (frame-tested h n t m f) (λ _. stats-at-done f o)
     call-code (Call.OnFrame FrameCall.Room f) = checked (λ (x : Out ℕ (List ℕ)). x .answer) _ _ refl (frame-tested h n t m f) (λ _. refl)
     call-code (Call.OnFrame FrameCall.TreeRun f) = sym (or-none (frameRefusal h n t m f)) ∙ ap₂ orElse (frame-tested h n t m f) refl
@@ -139,18 +184,16 @@ module _ (h n t : ℕ) (m : Mem) where
 
 -- ---- the other fields of a refusal
 
--- a call refused by code c answers its refusal
-bare : {A : Type 0} (say : A → List ℕ) {c k : ℕ} (does refusal : A) {rest : List ℕ} → say refusal ≡ c ∷ rest → c ≡ k → (k ≡ 0 → ⊥)
-    → say (pick (eqb c 0) does refusal) ≡ k ∷ rest
-bare say {c} does refusal {rest} q p e = rw (ne-eqb c 0 (λ z. e (sym p ∙ z))) (q ∙ ap (λ (x : ℕ). x ∷ rest) p)
-
 module _ (h n t : ℕ) (m : Mem) where
   pub call-bare : (c : Call) → Bare h n t m c
-  unfolding called own fields get getAt put isFree stats statsAt audit recover room treeRun replicate
-  call-bare (Call.Get row o) = bare (λ (x : Out Got Mem). gotNumbers (x .answer)) _ _ refl (start-tested h n t m row o)
+  unfolding called own fields get getAt put isFree stats statsAt audit recover room treeRun
+  call-bare (Call.OnRow RowCall.Get row o) = bare (λ (x : Out Got Mem). gotNumbers (x .answer)) _ _ refl (start-tested h n t m row o)
+  call-bare (Call.OnRow RowCall.WhyGet row o) = why-get h n t m row o .fields
   call-bare (Call.OnBlock BlockCall.GetAt f o) = bare (λ (x : Out Got Mem). gotNumbers (x .answer)) _ _ refl (block-tested h n t m f o)
   call-bare (Call.OnBlock BlockCall.Put f o) = bare (λ (x : Out ℕ Mem). x .answer ∷ []) _ _ refl (block-tested h n t m f o)
   call-bare (Call.OnBlock BlockCall.IsFree f o) = bare (λ (x : Answered). x .code ∷ pick (x .yes) 1 0 ∷ []) _ _ refl (block-tested h n t m f o)
+  call-bare (Call.OnBlock BlockCall.WhyGetAt f o) = why-get-at h n t m f o .fields
+  call-bare (Call.OnBlock BlockCall.WhyPut f o) = why-put h n t m f o .fields
   call-bare (Call.OnFrame (FrameCall.StatsAt o) f) = bare statsNumbers _ _ refl (frame-tested h n t m f)
   call-bare (Call.OnFrame FrameCall.Room f) = bare (λ (x : Out ℕ (List ℕ)). x .answer ∷ x .left) _ _ refl (frame-tested h n t m f)
   call-bare (Call.OnFrame FrameCall.TreeRun f) = bare (λ (x : List ℕ). frameRefusal h n t m f ∷ x) _ _ refl (frame-tested h n t m f)
@@ -163,9 +206,7 @@ module _ (h n t : ℕ) (m : Mem) where
 
 refused-left : {h n t : ℕ} {m : Mem} {c : Call} {ks : List ℕ} {after : Mem} → Leaves h n t m c ks after → (getD ks 0 0 ≡ 0 → ⊥) → after ≡ m
 refused-left (refused q) e = refl
-refused-left asked-block e = refl
-refused-left asked-frame e = refl
-refused-left asked-all e = refl
+refused-left (asked stays) e = refl
 refused-left (got-block row o j f p s l v) e = absurd (e refl)
 refused-left (got-group row o j p s l w) e = absurd (e refl)
 refused-left (took-block f o b l w) e = absurd (e refl)

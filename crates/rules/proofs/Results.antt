@@ -22,6 +22,7 @@ results-equal h n t m rows v f o b = record {
   puts = one-left _;
   asks = (one _, (one _, one _));
   audits = (one _, one-left _);
+  whys = (one _, (one _, one _));
   rooms = one-left _;
   tree-runs = (one _, one _);
   row-searches = λ a b. one-answer a b v o;

@@ -3,7 +3,7 @@ use mathlib.Core.Path.{_≡_, refl, sym, ap, _∙_}
 use mathlib.Core.Bool.{Bool, true, false, not, _&&_, _||_, and-false, true≢false}
 use mathlib.Core.List.{[], _∷_}
 use mathlib.Core.Logic.{⊎-elim}
-use Prim.Native.Nat.{ℕ, _+_, _-_, _^_, _≤_}
+use Prim.Native.Nat.{ℕ, _+_, _*_, _-_, _^_, _≤_}
 use native.Mathlib.Decide.{decLt}
 use native.Mathlib.Omega.{arith}
 use lib.Dec.{eqb, leb, ltb}
@@ -14,12 +14,12 @@ use Rattle.base.specs.Size.{Huge}
 use Rattle.base.proofs.Tests.{both}
 use Rattle.base.proofs.Walks.{all-each, all-of}
 use Rattle.rules.specs.declared.Got.{Got}
-use Rattle.rules.specs.Numbers.{mark, hugeOf, groupOf}
+use Rattle.rules.specs.Numbers.{mark, hugeOf, treeOf, groupOf}
 use Rattle.rules.specs.State.{Mem, entryOf, entriesAre}
 use Rattle.rules.specs.Refusals.{startRefusal}
 use Rattle.rules.specs.Get.{get}
 use Rattle.rules.specs.Put.{put}
-use Rattle.rules.specs.Call.{BlockCall, Call, called}
+use Rattle.rules.specs.Call.{RowCall, BlockCall, Call, called}
 use Rattle.rules.specs.Consistent.{Consistent, free, held, inBlock}
 use Rattle.rules.specs.Exact.{Missed, First}
 use Rattle.rules.specs.Runs.{noted, run, owed, givenBack}
@@ -41,11 +41,11 @@ module _ {h n t : ℕ} {m : Mem} (H : Huge h) (k : Consistent h n t m) (row o : 
 
   first : First h n t m row o a
   first = ⊎-elim
-      (λ (w : Missed h n t m row o). absurd (omega (arith, got, ap (λ (r : Got). r .code) (w .answer)))) (λ w. w) (demand-2 h n t m H k .gets row o passed)
+      (λ (w : Missed h n t m row o). absurd (omega (arith, got, ap (λ (r : Got). r .code) (w .answer)))) (λ w. w) (demand-2 h n t m H k .trees (treeOf h t (row * 64)) .gets row o refl passed)
 
   consistent : Consistent h n t between
   unfolding called
-  consistent = consistency h n t m H (k .fits) .keeps (Call.Get row o) k
+  consistent = consistency h n t m H (k 0 .fits) .keeps (Call.OnRow RowCall.Get row o) k
 
   -- its frames were free, and now they are held
   was-free : (f : ℕ) → inBlock a o f ≡ true → free h n m f ≡ true
@@ -64,8 +64,8 @@ module _ {h n t : ℕ} {m : Mem} (H : Huge h) (k : Consistent h n t m) (row o : 
   -- so a put of it is done
   put-done : put h n t between a o .answer ≡ 0
   put-done =
-      let passes = blocked-passes (record { sized = consistent .sized; top = started h n t _ row o passed .top; ends = first .block .ends; aligned = first .block .aligned }) in
-      demand-2 h n t between H consistent .puts a o passes .0 ∙ rw is-held whole
+      let passes = blocked-passes (record { sized = consistent 0 .sized; top = started h n t _ row o passed .top; ends = first .block .ends; aligned = first .block .aligned }) in
+      demand-2 h n t between H consistent .trees (treeOf h t a) .puts a o refl passes .0 ∙ rw is-held whole
     where
       whole : unless (pick (ltb o h) true (entriesAre mark (between .entries) (hugeOf h a) (groupOf h o))) 7 ≡ 0
       whole = elim (decLt o h) [
@@ -77,7 +77,7 @@ module _ {h n t : ℕ} {m : Mem} (H : Huge h) (k : Consistent h n t m) (row o : 
   pub put-back : put h n t between a o .left ≡ m
   unfolding run owed givenBack noted called
   put-back =
-      borrowed-and-returned h n t m (Call.Get row o ∷ Call.OnBlock BlockCall.Put a o ∷ []) H k
+      borrowed-and-returned h n t m (Call.OnRow RowCall.Get row o ∷ Call.OnBlock BlockCall.Put a o ∷ []) H k
       (λ f e. rw (eq-eqb (put h n t between a o .answer) 0 put-done) (kept f e (inBlock a o f) refl))
       (λ f. rw (eq-eqb (get h n t m row o .answer .code) 0 got, eq-eqb (put h n t between a o .answer) 0 put-done) (returned (inBlock a o f)))
     where

@@ -1,4 +1,4 @@
--- The rows and the entry of one huge frame written anew: all others stay as they were, and the state stays consistent where the new entry counts the new clear bits.
+-- The rows and the entry of one huge frame written anew: all others stay as they were, and a consistent tree stays so where the new entry counts the new clear bits.
 -- Assumes nothing.
 use mathlib.Core.Path.{_≡_, refl, sym, ap, _∙_}
 use mathlib.Core.Bool.{Bool, true, false}
@@ -21,7 +21,7 @@ use Rattle.rules.specs.Numbers.{mark, hugeOf}
 use Rattle.rules.specs.State.{Mem, entryOf, clearOf, withRows, withEntry}
 use Rattle.rules.proofs.Numbers.{tree-pos}
 use Rattle.rules.proofs.Present.{huge-is, huge-ends, present-entry, present-ends}
-use Rattle.rules.specs.Consistent.{ByMark, ByCount, Consistent, free}
+use Rattle.rules.specs.Consistent.{ByMark, ByCount, ConsistentIn, free}
 use Rattle.rules.proofs.Frees.{no-mark, held-past}
 use Rattle.rules.proofs.Blocks.{free-bit}
 
@@ -76,11 +76,11 @@ module _ (h : ℕ) (b : Bool) (rows : List ℕ) (x a s : ℕ) (first : x * 2 ^ h
 
 -- none but the frames and the entry of huge frame x differ, which is counted
 pub record Renewed (h n t : ℕ) (m left : Mem) (x : ℕ) : Type 0 where
-  pub consistent : Consistent h n t left
+  pub keeps : (y : ℕ) → ConsistentIn h n t m y → ConsistentIn h n t left y
   pub other : (g : ℕ) → (hugeOf h g ≡ x → ⊥) → free h n left g ≡ free h n m g
   pub own : (g : ℕ) → hugeOf h g ≡ x → g < n → free h n left g ≡ bitIs false (left .rows) g
 
-module _ {h n t : ℕ} {m : Mem} (H : Huge h) (c : Consistent h n t m) (x : ℕ) (here : x * 2 ^ h < n) (rs : List ℕ) (w : Rewritten h (m .rows) rs x) (e : ℕ)
+module _ {h n t : ℕ} {m : Mem} {z : ℕ} (H : Huge h) (c : ConsistentIn h n t m z) (x : ℕ) (here : x * 2 ^ h < n) (rs : List ℕ) (w : Rewritten h (m .rows) rs x) (e : ℕ)
     (counts : e ≡ clearOf h rs x) (past : (g : ℕ) → n ≤ g → g < (x + 1) * 2 ^ h → bitIs true rs g ≡ true) where
   abbrev left : Mem
   left = withEntry (withRows m rs) x e
@@ -110,18 +110,18 @@ module _ {h n t : ℕ} {m : Mem} (H : Huge h) (c : Consistent h n t m) (x : ℕ)
           past = λ g a u. other-bits true g (omega arith) u ∙ k .past g a u;
         }))
 
-  left-consistent : Consistent h n t left
-  left-consistent = record {
-    sized = rw (w .long, length-set) (c .sized);
+  left-keeps : (y : ℕ) → ConsistentIn h n t m y → ConsistentIn h n t left y
+  left-keeps _ d = record {
+    sized = rw (w .long, length-set) (d .sized);
     fits = record {
       rows = w .wide;
       entries = λ y. elim (ℕ-discrete y x) [
         | yes k ↦ rw k (omega (arith, own-entry, most, frames-fit H))
-        | no k ↦ rw (other-entry y k) (c .fits .entries y)
+        | no k ↦ rw (other-entry y k) (d .fits .entries y)
       ];
     };
-    present = λ y l. elim (ℕ-discrete y x) [ yes k ↦ rw k (inr own-counted) | no k ↦ other-stays y l k (c .present y l) ];
-    absent = λ y l u. elim (ℕ-discrete y x) [ yes k ↦ absurd (omega (arith, rw k at l)) | no k ↦ other-entry y k ∙ c .absent y l u ];
+    present = λ y own l. elim (ℕ-discrete y x) [ yes k ↦ rw k (inr own-counted) | no k ↦ other-stays y l k (d .present y own l) ];
+    absent = λ y own l u. elim (ℕ-discrete y x) [ yes k ↦ absurd (omega (arith, rw k at l)) | no k ↦ other-entry y k ∙ d .absent y own l u ];
   }
 
   other-free : (g : ℕ) → (hugeOf h g ≡ x → ⊥) → free h n left g ≡ free h n m g
@@ -138,7 +138,7 @@ module _ {h n t : ℕ} {m : Mem} (H : Huge h) (c : Consistent h n t m) (x : ℕ)
 
   pub renewed : Renewed h n t m left x
   renewed = record {
-    consistent = left-consistent;
+    keeps = left-keeps;
     other = other-free;
     own = λ g k l. free-bit h n left g l (unmarked (hugeOf h g) k);
   }

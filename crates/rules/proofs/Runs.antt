@@ -65,7 +65,7 @@ module _ {h n t : ℕ} (H : Huge h) where
   run-keeps-mark m [] k x idle = refl
   run-keeps-mark m (c ∷ cs) k x idle =
       run-keeps-mark (left h n t m c) cs (moves .consistent) x (λ f u. (moves .frames f ∙ rw (idle f u .0) (kept f u .0), kept f u .1))
-      ∙ calls-mark h n t m x H (k .fits) .0 c ∙ mark-stays h c (called h n t m c .answer) x same (marked m x)
+      ∙ calls-mark h n t m x H (k 0 .fits) .0 c ∙ mark-stays h c (called h n t m c .answer) x same (marked m x)
     where
       moves : Moves h n t m c
       moves = calls-move h n t m c H k

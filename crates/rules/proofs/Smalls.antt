@@ -1,9 +1,9 @@
--- Below the huge order, on a consistent state: what get with a frame, put and is_free answer, and what they leave. Assumes nothing.
+-- Below the huge order, in a consistent tree: what get with a frame, put and is_free answer, and what they leave. Assumes nothing.
 use mathlib.Core.Path.{_≡_, refl, sym, ap, _∙_}
 use mathlib.Core.Bool.{Bool, true, false, not, _&&_, and-false, true≢false}
 use mathlib.Core.List.{List}
 use mathlib.Core.Logic.{inr}
-use Prim.Native.Nat.{ℕ, _+_, _-_, _*_, _%_, _^_, _≤_, _<_}
+use Prim.Native.Nat.{ℕ, _+_, _-_, _*_, _/_, _%_, _^_, _≤_, _<_}
 use native.Mathlib.Decide.{ℕ-discrete}
 use native.Mathlib.Nat.{div-mul-le-self}
 use native.Mathlib.Omega.{arith}
@@ -18,14 +18,15 @@ use Rattle.base.specs.Size.{Huge}
 use Rattle.base.proofs.Walks.{either, count-le, count-full}
 use Rattle.base.proofs.Frames.{bit-written, bit-kept, zeros-block, block-of}
 use Rattle.rules.specs.declared.Got.{Got}
-use Rattle.rules.specs.Numbers.{mark, hugeOf}
+use Rattle.rules.specs.Numbers.{mark, hugeOf, treeOf}
 use Rattle.rules.specs.Refusals.{Blocked}
 use Rattle.rules.specs.State.{Mem, entryOf, clearOf, lengthsOf, withRows, withEntry}
 use Rattle.rules.specs.Get.{got, taken, getSmallAt}
+use Rattle.rules.proofs.Numbers.{tree-of-huge}
 use Rattle.rules.proofs.Present.{huge-ends, block-within}
 use Rattle.rules.specs.Put.{putMarked, putCounted, putSmall}
 use Rattle.rules.specs.Queries.{isFreeSmall}
-use Rattle.rules.specs.Consistent.{ByCount, Consistent, free, held}
+use Rattle.rules.specs.Consistent.{ByCount, ConsistentIn, free, held}
 use Rattle.rules.proofs.Effects.{Took, Gave, Beside}
 use Rattle.rules.proofs.Blocks.{free-bit, is-counted, is-marked, block-present, block-lent, block-marked, marked-held, block-free, block-held, block-counts}
 use Rattle.rules.proofs.Rewrites.{run-rewritten, run-clears, Renewed, renewed}
@@ -36,7 +37,8 @@ use Rattle.rules.proofs.Splits.{split, split-gave}
 abbrev getOut : ℕ → Mem → ℕ → ℕ → Bool → Out Got Mem
 getOut h m f o b = pick b (out (got 0 f 1) (taken h m f o)) (out (got 7 0 1) m)
 
-module _ {h n t : ℕ} {m : Mem} (H : Huge h) (c : Consistent h n t m) (f o : ℕ) (low : o < h) (even : f % 2 ^ o ≡ 0) (ends : f + 2 ^ o ≤ n) where
+module _ {h n t : ℕ} {m : Mem} {y : ℕ} (H : Huge h) (c : ConsistentIn h n t m y) (f o : ℕ) (low : o < h) (even : f % 2 ^ o ≡ 0) (ends : f + 2 ^ o ≤ n)
+    (own : hugeOf h f / t ≡ y) where
   abbrev entry : ℕ
   entry = entryOf (m .entries) (hugeOf h f)
 
@@ -47,7 +49,7 @@ module _ {h n t : ℕ} {m : Mem} (H : Huge h) (c : Consistent h n t m) (f o : �
 
   module _ (q : entry ≡ mark → ⊥) where
     counted : ByCount h n m (hugeOf h f)
-    counted = is-counted c (hugeOf h f) (block-present c f o low even ends) q
+    counted = is-counted c (hugeOf h f) own (block-present c f o low even ends) q
 
     -- the block's bits written with b
     module _ (b : Bool) where
@@ -95,7 +97,7 @@ module _ {h n t : ℕ} {m : Mem} (H : Huge h) (c : Consistent h n t m) (f o : �
     -- a count is never above 512, and never below what is clear, so the bits alone decide a get
     get-counted : (b : Bool) → blockIs false (m .rows) f (2 ^ o) ≡ b
         → pick (leb (2 ^ o) entry) (pick b (out (got 0 f 1) (taken h m f o)) (out (got (pick (leb entry (2 ^ h)) 7 8) 0 1) m)) (out (got 7 0 1) m) ≡ getOut h m f o b
-    get-counted true e = rw (le-leb (2 ^ o) entry (block-counts c f o low even ends q e))
+    get-counted true e = rw (le-leb (2 ^ o) entry (block-counts c f o low even ends q own e))
     get-counted false e = rw (le-leb entry (2 ^ h) (counted .most)) (either (leb (2 ^ o) entry) (out (got 7 0 1) m))
 
     -- what is set was not counted, so they decide a put
@@ -108,7 +110,7 @@ module _ {h n t : ℕ} {m : Mem} (H : Huge h) (c : Consistent h n t m) (f o : �
 
     -- and is_free: where all are clear, the block is
     free-counted : (b : Bool) → blockIs false (m .rows) f (2 ^ o) ≡ b → pick (leb (2 ^ o) entry) (pick (eqb entry (2 ^ h)) true b) false ≡ b
-    free-counted true e = rw (le-leb (2 ^ o) entry (block-counts c f o low even ends q e)) (either (eqb entry (2 ^ h)) true)
+    free-counted true e = rw (le-leb (2 ^ o) entry (block-counts c f o low even ends q own e)) (either (eqb entry (2 ^ h)) true)
     free-counted false e = rw (ne-eqb entry (2 ^ h) whole) (either (leb (2 ^ o) entry) false)
       where
         whole : entry ≡ 2 ^ h → ⊥
@@ -143,7 +145,7 @@ module _ {h n t : ℕ} {m : Mem} (H : Huge h) (c : Consistent h n t m) (f o : �
   put-marked-is : entry ≡ mark → putSmall h m f o ≡ out 0 (split h m f o)
   unfolding putSmall putMarked
   put-marked-is q =
-      let k = is-marked c H (hugeOf h f) (block-present c f o low even ends) q in
+      let k = is-marked c H (hugeOf h f) own (block-present c f o low even ends) q in
       rw (eq-eqb entry mark q, block-of false (m .rows) (hugeOf h f * 2 ^ h) (2 ^ h) (λ g a u. k .clear g a (omega arith)))
 
   put-counted-is : (q : entry ≡ mark → ⊥) → putSmall h m f o ≡ putOut q (blockIs true (m .rows) f (2 ^ o))
@@ -152,7 +154,7 @@ module _ {h n t : ℕ} {m : Mem} (H : Huge h) (c : Consistent h n t m) (f o : �
 
   put-small-is : (putSmall h m f o .answer ≡ unless (all (held h n m) (2 ^ o) f) 7) × (putSmall h m f o .answer ≡ 0 → Gave h n t m (putSmall h m f o .left) f o)
   put-small-is = elim (ℕ-discrete entry mark) [
-    | yes q ↦ rw (put-marked-is q, marked-held c f o low even ends q) (refl, λ _. split-gave H c f o low even ends q)
+    | yes q ↦ rw (put-marked-is q, marked-held c f o low even ends q) (refl, λ _. split-gave H c f o low even ends own q)
     | no q ↦ rw (put-counted-is q, block-held c f o low even ends q) (go q (blockIs true (m .rows) f (2 ^ o)) refl)
   ]
     where
@@ -163,12 +165,15 @@ module _ {h n t : ℕ} {m : Mem} (H : Huge h) (c : Consistent h n t m) (f o : �
 
 -- ---- of a call that passed its refusals
 
-module _ {h n t : ℕ} {m : Mem} {f o : ℕ} (H : Huge h) (c : Consistent h n t m) (low : o < h) (b : Blocked h n t (lengthsOf m) f o) where
+module _ {h n t : ℕ} {m : Mem} {y f o : ℕ} (H : Huge h) (c : ConsistentIn h n t m y) (low : o < h) (b : Blocked h n t (lengthsOf m) f o) (own : treeOf h t f ≡ y) where
+  its-tree : hugeOf h f / t ≡ y
+  its-tree = sym (tree-of-huge h t f) ∙ own
+
   pub get-small-at-exact : (getSmallAt h m f o .answer ≡ pick (all (free h n m) (2 ^ o) f) (got 0 f 1) (got 7 0 1))
       × (all (free h n m) (2 ^ o) f ≡ true → Took h n t m (getSmallAt h m f o .left) f o)
       × (all (free h n m) (2 ^ o) f ≡ false → getSmallAt h m f o .left ≡ m)
   get-small-at-exact =
-      rw (get-small-at-is H c f o low (b .aligned) (b .ends)) (go (all (free h n m) (2 ^ o) f) (free-taken H c f o low (b .aligned) (b .ends)))
+      rw (get-small-at-is H c f o low (b .aligned) (b .ends) its-tree) (go (all (free h n m) (2 ^ o) f) (free-taken H c f o low (b .aligned) (b .ends) its-tree))
     where
       go : (b : Bool) → (b ≡ true → Took h n t m (taken h m f o) f o)
           → (getOut h m f o b .answer ≡ pick b (got 0 f 1) (got 7 0 1)) × (b ≡ true → Took h n t m (getOut h m f o b .left) f o) × (b ≡ false → getOut h m f o b .left ≡ m)
@@ -176,7 +181,7 @@ module _ {h n t : ℕ} {m : Mem} {f o : ℕ} (H : Huge h) (c : Consistent h n t 
       go false k = (refl, λ e. absurd (true≢false (sym e)), λ _. refl)
 
   pub put-small-exact : (putSmall h m f o .answer ≡ unless (all (held h n m) (2 ^ o) f) 7) × (putSmall h m f o .answer ≡ 0 → Gave h n t m (putSmall h m f o .left) f o)
-  put-small-exact = put-small-is H c f o low (b .aligned) (b .ends)
+  put-small-exact = put-small-is H c f o low (b .aligned) (b .ends) its-tree
 
   pub is-free-small-exact : isFreeSmall h m f o ≡ all (free h n m) (2 ^ o) f
-  is-free-small-exact = is-free-small-is H c f o low (b .aligned) (b .ends)
+  is-free-small-exact = is-free-small-is H c f o low (b .aligned) (b .ends) its-tree

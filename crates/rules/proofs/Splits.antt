@@ -2,7 +2,7 @@
 use mathlib.Core.Path.{_≡_, sym, ap, _∙_}
 use mathlib.Core.Bool.{true, false}
 use mathlib.Core.List.{List}
-use Prim.Native.Nat.{ℕ, _+_, _*_, _%_, _^_, _≤_, _<_}
+use Prim.Native.Nat.{ℕ, _+_, _*_, _/_, _%_, _^_, _≤_, _<_}
 use native.Mathlib.Nat.{div-mul-le-self}
 use native.Mathlib.Omega.{arith}
 use lib.ListN.{length}
@@ -14,7 +14,7 @@ use Rattle.base.proofs.Frames.{bit-written, bit-kept}
 use Rattle.rules.specs.Numbers.{mark, hugeOf}
 use Rattle.rules.specs.State.{Mem, entryOf, clearOf, withRows, withEntry}
 use Rattle.rules.proofs.Present.{huge-is, huge-ends, block-within, block-huge}
-use Rattle.rules.specs.Consistent.{Consistent, free}
+use Rattle.rules.specs.Consistent.{ConsistentIn, free}
 use Rattle.rules.proofs.Effects.{Gave, Beside}
 use Rattle.rules.proofs.Frees.{held-mark}
 use Rattle.rules.proofs.Blocks.{block-present, block-lent, marked-held, is-marked}
@@ -29,8 +29,8 @@ filled h rows f = withBits true rows (hugeOf h f * 2 ^ h) (hugeOf h f * 2 ^ h + 
 abbrev pub split : ℕ → Mem → ℕ → ℕ → Mem
 split h m f o = withEntry (withRows m (withBits false (filled h (m .rows) f) f (f + 2 ^ o))) (hugeOf h f) (2 ^ o)
 
-module _ {h n t : ℕ} {m : Mem} (H : Huge h) (c : Consistent h n t m) (f o : ℕ) (low : o < h) (even : f % 2 ^ o ≡ 0) (ends : f + 2 ^ o ≤ n)
-    (q : entryOf (m .entries) (hugeOf h f) ≡ mark) where
+module _ {h n t : ℕ} {m : Mem} {y : ℕ} (H : Huge h) (c : ConsistentIn h n t m y) (f o : ℕ) (low : o < h) (even : f % 2 ^ o ≡ 0) (ends : f + 2 ^ o ≤ n)
+    (own : hugeOf h f / t ≡ y) (q : entryOf (m .entries) (hugeOf h f) ≡ mark) where
   abbrev full : List ℕ
   full = filled h (m .rows) f
 
@@ -42,8 +42,8 @@ module _ {h n t : ℕ} {m : Mem} (H : Huge h) (c : Consistent h n t m) (f o : �
 
   full-set : (g : ℕ) → hugeOf h g ≡ hugeOf h f → bitIs false full g ≡ false
   full-set g k =
-      let own = huge-ends h g (hugeOf h f) k in
-      bit-written true (m .rows) (hugeOf h f * 2 ^ h) (hugeOf h f * 2 ^ h + 2 ^ h) (omega arith) false g (omega (arith, lent, own .1)) (own .0) (omega (arith, own .1))
+      let within = huge-ends h g (hugeOf h f) k in
+      bit-written true (m .rows) (hugeOf h f * 2 ^ h) (hugeOf h f * 2 ^ h + 2 ^ h) (omega arith) false g (omega (arith, lent, within .1)) (within .0) (omega (arith, within .1))
 
   full-clears : clearOf h full (hugeOf h f) ≡ 0
   full-clears = count-none (bitIs false full) (2 ^ h) (hugeOf h f * 2 ^ h) (λ g a u. full-set g (huge-is h (hugeOf h f) g a (omega arith)))
@@ -66,7 +66,7 @@ module _ {h n t : ℕ} {m : Mem} (H : Huge h) (c : Consistent h n t m) (f o : �
   split-renewed =
       let here = block-present c f o low even ends in
       renewed H c (hugeOf h f) here (split h m f o .rows) split-rewritten (2 ^ o) split-clears
-      (λ g a u. absurd (omega (arith, is-marked c H (hugeOf h f) here q .below)))
+      (λ g a u. absurd (omega (arith, is-marked c H (hugeOf h f) own here q .below)))
 
   split-beside : (g : ℕ) → hugeOf h g ≡ hugeOf h f → g < n → Beside f o g → bitIs false (split h m f o .rows) g ≡ free h n m g
   split-beside g k l s =

@@ -93,11 +93,11 @@ module _ {h n t : ℕ} (H : Huge h) (m : Mem) (fits : Fits m) (s : Sized h n t (
       }
 
   freed-consistent : Consistent h n t freed
-  freed-consistent = record {
+  freed-consistent y = record {
     sized = started-sized n below-n (freeEntry h n);
     fits = started-fits n below-n (freeEntry h n) (λ x. omega (arith, freed-few x, frames-fit H));
-    present = λ x l. inr (freed-counted x l);
-    absent = λ x l u. freed-entry x u ∙ omega arith;
+    present = λ x _ l. inr (freed-counted x l);
+    absent = λ x _ l u. freed-entry x u ∙ omega arith;
   }
 
   freed-free : (f : ℕ) → f < n → free h n freed f ≡ true
@@ -153,11 +153,11 @@ module _ {h n t : ℕ} (H : Huge h) (m : Mem) (fits : Fits m) (s : Sized h n t (
         }
 
   reserved-consistent : Consistent h n t reserved
-  reserved-consistent = record {
+  reserved-consistent y = record {
     sized = started-sized wholes wholes-low (heldEntry h n);
     fits = started-fits wholes wholes-low (heldEntry h n) reserved-few;
-    present = λ x l. elim (decLe ((x + 1) * 2 ^ h) n) [ yes u ↦ inl (reserved-marked x l u) | no u ↦ inr (reserved-counted x l (omega arith)) ];
-    absent = λ x l u. started-entry wholes wholes-low (heldEntry h n) x u ∙ reserved-partial x (omega (arith, pow-pos h));
+    present = λ x _ l. elim (decLe ((x + 1) * 2 ^ h) n) [ yes u ↦ inl (reserved-marked x l u) | no u ↦ inr (reserved-counted x l (omega arith)) ];
+    absent = λ x _ l u. started-entry wholes wholes-low (heldEntry h n) x u ∙ reserved-partial x (omega (arith, pow-pos h));
   }
 
   reserved-held : (f : ℕ) → f < n → free h n reserved f ≡ false

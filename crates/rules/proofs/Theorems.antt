@@ -2,7 +2,7 @@
 use mathlib.Core.Path.{_≡_}
 use Prim.Native.Nat.{ℕ}
 use Rattle.rules.specs.State.{Mem}
-use Rattle.rules.specs.Exact.{Consistency, Demand2}
+use Rattle.rules.specs.Exact.{Consistency, Demand2In, Demand2}
 use Rattle.rules.specs.Steps.{EveryStep}
 use Rattle.rules.specs.Keeps.{Keeps, CallsKeep}
 use Rattle.rules.specs.OneTree.{OneTree}
@@ -10,6 +10,7 @@ use Rattle.rules.specs.Marks.{MarksMove}
 use Rattle.rules.specs.Same.{StateIsDetermined, BeyondUnread}
 use Rattle.rules.specs.Runs.{LedgerIsState, BorrowedAndReturned, NeverShared}
 use Rattle.rules.specs.Results.{EqualResults, TableHolds}
+use Rattle.rules.specs.Whys.{WhysTell}
 use Rattle.rules.proofs.Starts.{free-all-is-consistent, reserve-all-is-consistent}
 use Rattle.rules.proofs.Audits.{audit-names-first, clean-is-consistent}
 use Rattle.rules.proofs.Recovers.{recover-makes-consistent, recover-keeps-consistent}
@@ -21,9 +22,11 @@ use Rattle.rules.proofs.Marks.{calls-mark}
 use Rattle.rules.proofs.Determined.{determined}
 use Rattle.rules.proofs.Unread.{needed-alone}
 use Rattle.rules.proofs.Runs.{calls-keep-consistent, ledger-tells, borrowed-leaves-no-trace, frames-never-shared}
+use Rattle.rules.proofs.FreeCounts.{stats-is-exact}
 use Rattle.rules.proofs.Exacts.{calls-are-exact}
 use Rattle.rules.proofs.OneTree.{tree-alone}
 use Rattle.rules.proofs.Results.{results-equal, table-right}
+use Rattle.rules.proofs.Whys.{whys-told}
 
 pub consistency : Consistency
 consistency h n t m H fits = record {
@@ -55,8 +58,11 @@ every-step h n t m H = record {
   gives = put-gives H n t m;
 }
 
+pub demand-2-in : Demand2In
+demand-2-in = calls-are-exact
+
 pub demand-2 : Demand2
-demand-2 = calls-are-exact
+demand-2 h n t m H c = record { trees = λ y. demand-2-in h n t m y H (c y); counts = stats-is-exact h n t m H c }
 
 pub marks-move : MarksMove
 marks-move = calls-mark
@@ -84,3 +90,6 @@ equal-results = results-equal
 
 pub table-holds : TableHolds
 table-holds = table-right
+
+pub whys-tell : WhysTell
+whys-tell = whys-told

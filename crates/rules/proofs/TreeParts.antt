@@ -13,14 +13,14 @@ use Rattle.base.specs.Code.{Out, out}
 use Rattle.base.specs.Size.{Huge, rowsPer}
 use Rattle.base.specs.Bits.{bitIs, blockIs, withBits}
 use Rattle.base.proofs.Rests.{quotient-is}
-use Rattle.base.proofs.Walks.{pick-both, all-same}
+use Rattle.base.proofs.Walks.{pick-both, all-same, count-same}
 use Rattle.base.proofs.Written.{length-written, set-alike, written-alike}
 use Rattle.base.proofs.Writes.{length-with, with-alike}
 use Rattle.base.proofs.Frames.{same-bit}
 use Rattle.base.proofs.Parts.{part-same}
 use Rattle.rules.specs.Numbers.{hugeOf, rowsNeeded}
 use Rattle.rules.specs.Refusals.{Sized}
-use Rattle.rules.specs.State.{Mem, entryOf, rowsOf, entriesAre, lengthsOf, withRows, withEntries, withEntry}
+use Rattle.rules.specs.State.{Mem, entryOf, rowsOf, clearOf, entriesAre, lengthsOf, withRows, withEntries, withEntry}
 use Rattle.rules.proofs.Numbers.{huge-of-row}
 use Rattle.rules.proofs.Present.{present-low, huge-is}
 use Rattle.rules.proofs.Lent.{present-rows, frame-entry}
@@ -48,10 +48,13 @@ module _ {h n t y : ℕ} {a b : Mem} (w : Agreeing h n t y a b) where
   bit-alike c f e l = same-bit c (a .rows) (b .rows) f (row-alike (f / 64) (rw (huge-of-row f (w .huge)) at e) (rw (huge-of-row f (w .huge)) at l))
 
   module _ (x : ℕ) (here : x / t ≡ y) (present : x * 2 ^ h < n) where
-    pub block-alike : (c : Bool) (f s : ℕ) → x * 2 ^ h ≤ f → f + s ≤ (x + 1) * 2 ^ h → blockIs c (a .rows) f s ≡ blockIs c (b .rows) f s
+    pub block-alike : (c : Bool) (f s : ℕ) → x * 2 ^ h ≤ f → s ≤ (x + 1) * 2 ^ h - f → blockIs c (a .rows) f s ≡ blockIs c (b .rows) f s
     unfolding blockIs
     block-alike c f s lo hi =
         all-same _ _ s 0 (λ j _ l. let is : hugeOf h (f + j) ≡ x = huge-is h x (f + j) (omega arith) (omega arith) in bit-alike c (f + j) (rw is here) (rw is present))
+
+    pub clear-alike : clearOf h (a .rows) x ≡ clearOf h (b .rows) x
+    clear-alike = count-same _ _ (2 ^ h) (x * 2 ^ h) (λ f l u. let is : hugeOf h f ≡ x = huge-is h x f l (omega arith) in bit-alike false f (rw is here) (rw is present))
 
     pub part-alike : rowsOf h (a .rows) x ≡ rowsOf h (b .rows) x
     part-alike =

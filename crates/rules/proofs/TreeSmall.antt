@@ -82,7 +82,7 @@ module _ {h n t y : ℕ} {a b : Mem} (w : Agreeing h n t y a b) where
 
     bits-alike : (c : Bool) → blockIs c (a .rows) f (2 ^ o) ≡ blockIs c (b .rows) f (2 ^ o)
     bits-alike c =
-        block-alike w (hugeOf h f) here present c f (2 ^ o) (div-mul-le-self f (2 ^ h)) (block-within f o low even)
+        block-alike w (hugeOf h f) here present c f (2 ^ o) (div-mul-le-self f (2 ^ h)) (omega (arith, block-within f o low even))
 
     pub get-small-at-alike : Alike h n t y (getSmallAt h a f o) (getSmallAt h b f o)
     unfolding getSmallAt

@@ -2,7 +2,7 @@
 use mathlib.Core.Path.{_≡_, refl, sym, ap, ap₂, _∙_}
 use mathlib.Core.Bool.{Bool, true, false, not}
 use mathlib.Core.List.{List, [], _∷_}
-use Prim.Native.Nat.{ℕ, _+_, _-_, _*_, _/_, _^_, _≤_, _<_}
+use Prim.Native.Nat.{ℕ, _+_, _*_, _/_, _^_, _≤_, _<_}
 use native.Mathlib.Decide.{decLt, ℕ-discrete}
 use native.Mathlib.Nat.{mul-comm, mul-le-mul-right, div-lt-iff-lt-mul}
 use native.Mathlib.Omega.{arith}
@@ -13,15 +13,14 @@ use borrow.Author.Tests.{ltb-true}
 use Rattle.base.specs.Walk.{all, count, written}
 use Rattle.base.specs.Code.{orElse, stored}
 use Rattle.base.specs.Size.{Huge, rowsPer}
-use Rattle.base.specs.Bits.{bitIs, blockIs, withBits}
-use Rattle.base.proofs.Frames.{same-bit}
+use Rattle.base.specs.Bits.{withBits}
 use Rattle.base.proofs.Sums.{sum-same}
 use Rattle.base.proofs.Walks.{pick-both, all-same, count-same, first-same}
 use Rattle.base.proofs.Written.{written-alike}
 use Rattle.base.proofs.Writes.{length-with, with-alike}
-use Rattle.rules.specs.Numbers.{ceil, present, treeOf, rowsNeeded, treesNeeded, entriesNeeded}
+use Rattle.rules.specs.Numbers.{ceil, treeOf, rowsNeeded, treesNeeded, entriesNeeded}
 use Rattle.rules.specs.Refusals.{Sized, sizesRefusal}
-use Rattle.rules.specs.State.{Mem, mem, entryOf, freeOf, clearOf, lengthsOf}
+use Rattle.rules.specs.State.{Mem, mem, entryOf, freeOf, lengthsOf}
 use Rattle.rules.specs.Queries.{statistics, freeIn, statsAll, stats}
 use Rattle.rules.specs.Audit.{fault, reason, faultless, auditAll, audit}
 use Rattle.rules.specs.Recover.{recovered, blocksRecovery, recoverable, entryAfter, rowAfter, mended, differing, recoverAll, recover}
@@ -35,18 +34,33 @@ use Rattle.rules.specs.Keeps.{numberOf, tested, own, fields}
 use Rattle.rules.specs.OneTree.{Agree, On}
 use Rattle.rules.specs.Same.{Same, SameOut, BeyondUnread}
 use Rattle.rules.proofs.Numbers.{tree-pos}
-use Rattle.rules.proofs.Present.{present-entry, row-present, present-ends, low-present}
+use Rattle.rules.proofs.Present.{present-entry, row-present, low-present}
 use Rattle.rules.proofs.Needed.{tree-covers, tree-needed}
 use Rattle.rules.proofs.Lent.{sized, sized-passes, blocked, started, framed}
 use Rattle.rules.proofs.Refusals.{sizes-then, block-tested, start-tested, frame-tested, call-bare, call-refused}
 use Rattle.rules.proofs.Mended.{entries-beyond, mended-entry, mended-row}
 use Rattle.rules.proofs.Differs.{entries-differ, bitfields-differ}
 use Rattle.rules.proofs.OtherTrees.{other-trees}
+use Rattle.rules.proofs.TreeParts.{Agreeing, clear-alike}
+use Rattle.rules.proofs.TreeWhys.{reason-alike}
 use Rattle.rules.proofs.OneTree.{tree-alone}
 
 module _ {h n t : ℕ} {a b : Mem} (H : Huge h) (sa : Sized h n t (lengthsOf a)) (sb : Sized h n t (lengthsOf b)) (s : Same h n t a b) where
   some : 0 < t
   some = tree-pos t (sa .tree)
+
+  -- they agree on each needed tree
+  agreeing : (y : ℕ) → y < treesNeeded h n t → Agreeing h n t y a b
+  agreeing y l = record {
+    huge = H;
+    sized = sa;
+    other = sb;
+    agree = record { rows = λ i u _. s .rows i u; entries = λ x e. s .entries x (rw (mul-comm t) (div-lt-iff-lt-mul some .0 (omega (arith, e)))) };
+  }
+
+  -- and so on that of a needed entry
+  around : (x : ℕ) → x < entriesNeeded h n t → Agreeing h n t (x / t) a b
+  around x u = agreeing (x / t) (div-lt-iff-lt-mul some .1 (rw (mul-comm t) at u))
 
   -- ---- a call on one tree
 
@@ -67,9 +81,7 @@ module _ {h n t : ℕ} {a b : Mem} (H : Huge h) (sa : Sized h n t (lengthsOf a))
   -- or passes them, so that its tree is a needed one
   passed-same : (c : Call) (y : ℕ) → On h t y c → y < treesNeeded h n t → SameOut h n t (called h n t a c) (called h n t b c)
   passed-same c y on l =
-      let needed : (x : ℕ) → x / t ≡ y → x < entriesNeeded h n t = λ x e. rw (mul-comm t) (div-lt-iff-lt-mul some .0 (omega (arith, e))) in
-      let agree : Agree h n t y a b = record { rows = λ i u _. s .rows i u; entries = λ x e. s .entries x (needed x e) } in
-      let k = tree-alone h n t y a b c H (sized-passes sa) (sized-passes sb) on agree in
+      let k = tree-alone h n t y a b c H (sized-passes sa) (sized-passes sb) on (agreeing y l .agree) in
       let others : (m : Mem) (z : ℕ) → (z ≡ y → ⊥) → Agree h n t z (left h n t m c) m = λ m. other-trees h n t y m c H on in (
         k .0,
         record {
@@ -90,21 +102,11 @@ module _ {h n t : ℕ} {a b : Mem} (H : Huge h) (sa : Sized h n t (lengthsOf a))
   -- ---- a huge frame that is present
 
   module _ (x : ℕ) (l : x * 2 ^ h < n) where
-    bit-same : (c : Bool) (f : ℕ) → f < (x + 1) * 2 ^ h → bitIs c (a .rows) f ≡ bitIs c (b .rows) f
-    bit-same c f u = same-bit c (a .rows) (b .rows) f (s .rows (f / 64) (div-lt-iff-lt-mul (omega arith) .1 (omega (arith, present-ends H n x l))))
-
-    block-same : (c : Bool) (f k : ℕ) → ((j : ℕ) → j < k → f + j < (x + 1) * 2 ^ h) → blockIs c (a .rows) f k ≡ blockIs c (b .rows) f k
-    unfolding blockIs
-    block-same c f k u = all-same _ _ k 0 (λ j _ v. bit-same c (f + j) (u j (omega arith)))
-
-    clear-same : clearOf h (a .rows) x ≡ clearOf h (b .rows) x
-    clear-same = count-same _ _ (2 ^ h) (x * 2 ^ h) (λ f _ u. bit-same false f (omega arith))
-
     entry-same : entryOf (a .entries) x ≡ entryOf (b .entries) x
     entry-same = s .entries x (present-entry h n t x some l)
 
     after-same : entryAfter h a x ≡ entryAfter h b x
-    after-same = rw (entry-same, clear-same)
+    after-same = rw (entry-same, clear-alike (around x (present-entry h n t x some l)) x refl l)
 
   -- ---- the calls that read everything
 
@@ -120,13 +122,7 @@ module _ {h n t : ℕ} {a b : Mem} (H : Huge h) (sa : Sized h n t (lengthsOf a))
       (count-same _ _ (treesNeeded h n t) 0 (λ y _ u. ap (λ (k : ℕ). eqb k (2 ^ h * t)) (free-same t (y * t) (tree-needed h n t y (omega arith))))))
 
   reason-same : (x : ℕ) → x < entriesNeeded h n t → reason h n a x ≡ reason h n b x
-  unfolding reason
-  reason-same x u =
-      rw (s .entries x u)
-      (pick-both _≡_ (present h n x)
-      (λ p. let l = ltb-true (x * 2 ^ h) n p in
-      rw (block-same x l false (x * 2 ^ h) (2 ^ h) (λ j v. omega arith), block-same x l true n ((x + 1) * 2 ^ h - n) (λ j v. omega arith), clear-same x l))
-      (λ _. refl))
+  reason-same x u = reason-alike (around x u) x refl
 
   faultless-same : faultless h n t a ≡ faultless h n t b
   unfolding faultless
@@ -218,8 +214,8 @@ module _ {h n t : ℕ} {a b : Mem} (H : Huge h) (sa : Sized h n t (lengthsOf a))
 
   called-same : (c : Call) → SameOut h n t (called h n t a c) (called h n t b c)
   unfolding On own
-  called-same (Call.Get row o) =
-      on-tree (Call.Get row o) (treeOf h t (row * 64)) refl (λ z. tree-covers h n t (row * 64) some (started h n t _ row o (start-tested h n t a row o ∙ z) .begins))
+  called-same (Call.OnRow c row o) =
+      on-tree (Call.OnRow c row o) (treeOf h t (row * 64)) refl (λ z. tree-covers h n t (row * 64) some (started h n t _ row o (start-tested h n t a row o ∙ z) .begins))
   called-same (Call.OnBlock c f o) =
       on-tree (Call.OnBlock c f o) (treeOf h t f) refl
       (λ z. tree-covers h n t f some (omega (arith, blocked h n t _ f o (block-tested h n t a f o ∙ z) .ends, pow-pos o)))

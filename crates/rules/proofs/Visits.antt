@@ -1,9 +1,9 @@
--- A get's visit of one entry of a consistent state, below the huge order: it passes an entry of which no block is free, or answers the first that is. Assumes nothing.
+-- A get's visit of one entry of a consistent tree, below the huge order: it passes an entry of which no block is free, or answers the first that is. Assumes nothing.
 use mathlib.Core.Path.{_≡_, refl, sym, ap, _∙_, subst, subst₂}
 use mathlib.Core.Bool.{Bool, true, false, not, not-eq-not, true≢false}
 use mathlib.Core.List.{List}
 use mathlib.Core.Logic.{⊎-elim}
-use Prim.Native.Nat.{ℕ, _+_, _-_, _*_, _%_, _^_, _≤_, _<_}
+use Prim.Native.Nat.{ℕ, _+_, _-_, _*_, _/_, _%_, _^_, _≤_, _<_}
 use native.Mathlib.Decide.{decLt, ℕ-discrete}
 use native.Mathlib.Nat.{mod-mod, div-add-mod', div-mul-le-self}
 use native.Mathlib.Omega.{arith}
@@ -30,7 +30,7 @@ use Rattle.rules.specs.declared.Visit.the-variants.{Pass, Damage, Place}
 use Rattle.rules.specs.Get.{visit}
 use Rattle.rules.proofs.BlockTurns.{placed-within}
 use Rattle.rules.proofs.VisitSteps.{Looked, visit-marked, visit-few, visit-placed, visit-none, visit-free}
-use Rattle.rules.specs.Consistent.{ByMark, ByCount, Consistent, free}
+use Rattle.rules.specs.Consistent.{ByMark, ByCount, ConsistentIn, free}
 use Rattle.rules.specs.Exact.{stepsTo}
 use Rattle.rules.proofs.Frees.{no-mark}
 use Rattle.rules.proofs.Blocks.{block-marked, block-free, block-counts}
@@ -72,7 +72,7 @@ distance-turn {h} H row o f = rw (go (leb o 6)) (mod-sum f (2 ^ h - origin h row
     go true = sym (rw (rows-wrap H row) (mod-mod (row * 64) (2 ^ h)))
     go false = refl
 
-module _ {h n t : ℕ} {m : Mem} (H : Huge h) (c : Consistent h n t m) (row o : ℕ) (low : o < h) (x : ℕ) where
+module _ {h n t : ℕ} {m : Mem} {y : ℕ} (H : Huge h) (c : ConsistentIn h n t m y) (row o : ℕ) (low : o < h) (x : ℕ) (own : x / t ≡ y) where
   -- ---- an entry that is a count
   module _ (here : x * 2 ^ h < n) (k : ByCount h n m x) where
     -- the rows that are searched, and the answer
@@ -95,7 +95,7 @@ module _ {h n t : ℕ} {m : Mem} (H : Huge h) (c : Consistent h n t m) (row o : 
     -- so the entry counts them
     free-counts : (f : ℕ) → BlockOf h n o x f → all (free h n m) (2 ^ o) f ≡ true → 2 ^ o ≤ entryOf (m .entries) x
     free-counts f b e =
-        subst (λ (y : ℕ). 2 ^ o ≤ entryOf (m .entries) y) (b .huge) (block-counts c f o low (b .aligned) (b .ends) (rw (b .huge) (no-mark H k)) (free-clear f b e))
+        subst (λ (z : ℕ). 2 ^ o ≤ entryOf (m .entries) z) (b .huge) (block-counts c f o low (b .aligned) (b .ends) (rw (b .huge) (no-mark H k)) (rw (b .huge) own) (free-clear f b e))
 
     -- and its bits in the rows that are searched are clear
     part-clear : (f : ℕ) → BlockOf h n o x f → all (free h n m) (2 ^ o) f ≡ true → (g : ℕ) → f % 2 ^ h ≤ g → g < f % 2 ^ h + 2 ^ o → bitIs false part g ≡ true
@@ -178,6 +178,6 @@ module _ {h n t : ℕ} {m : Mem} (H : Huge h) (c : Consistent h n t m) (row o : 
   -- a visit of an entry that N and T need says which of its blocks are free
   pub visit-says : x < entriesNeeded h n t → Says h n m row o x (visit h n m row o x)
   visit-says needed = elim (decLt (x * 2 ^ h) n) [
-    | yes here ↦ ⊎-elim marked-says (counted-says here) (c .present x here)
-    | no l ↦ let past : n ≤ x * 2 ^ h = omega arith in absent-says past (c .absent x past needed)
+    | yes here ↦ ⊎-elim marked-says (counted-says here) (c .present x own here)
+    | no l ↦ let past : n ≤ x * 2 ^ h = omega arith in absent-says past (c .absent x own past needed)
   ]

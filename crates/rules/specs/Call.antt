@@ -6,13 +6,18 @@ use Rattle.base.specs.Walk.{pick}
 use Rattle.base.specs.Code.{Out, out}
 use Rattle.rules.specs.declared.Got.{Got}
 use Rattle.rules.specs.declared.Stats.{Stats as Statistics}
+use Rattle.rules.specs.declared.Why.{Why}
 use Rattle.rules.specs.State.{Mem}
 use Rattle.rules.specs.Refusals.{frameRefusal}
-use Rattle.rules.specs.Calls.{get, getAt, put, isFree, stats, statsAt, audit, recover, room, treeRun}
+use Rattle.rules.specs.Calls.{get, getAt, put, isFree, stats, statsAt, audit, recover, room, treeRun, whyGet, whyGetAt, whyPut}
 
--- "get with a frame, put, is_free": the calls on a block
+-- the calls with a start row: get without a frame, and why it is turned down
+pub data RowCall : Type 0 where
+  Get WhyGet : RowCall
+
+-- "get with a frame, put, is_free": the calls on a block, with why the first two are turned down
 pub data BlockCall : Type 0 where
-  GetAt Put IsFree : BlockCall
+  GetAt Put IsFree WhyGetAt WhyPut : BlockCall
 
 -- "stats_at, room, tree run": the calls on a frame
 pub data FrameCall : Type 0 where
@@ -25,7 +30,7 @@ pub data AllCall : Type 0 where
 
 -- a call, with what it is asked besides N and T
 pub data Call : Type 0 where
-  Get : (row order : ℕ) → Call
+  OnRow : RowCall → (row order : ℕ) → Call
   OnBlock : BlockCall → (frame order : ℕ) → Call
   OnFrame : FrameCall → (frame : ℕ) → Call
   OnAll : AllCall → Call
@@ -36,12 +41,18 @@ gotNumbers r = r .code ∷ r .frame ∷ r .probes ∷ []
 abbrev pub statsNumbers : Statistics → List ℕ
 statsNumbers r = r .code ∷ r .«free_frames» ∷ r .«free_huge» ∷ r .«free_trees» ∷ []
 
+abbrev pub whyNumbers : Why → List ℕ
+whyNumbers r = r .code ∷ r .reason ∷ r .frame ∷ []
+
 -- the numbers that a call answers, its code first, and the memory that it leaves; a tree run's code is that of the call beside it
 unfoldable pub called : ℕ → ℕ → ℕ → Mem → Call → Out (List ℕ) Mem
-called h n t m (Get row o) = out (gotNumbers (get h n t m row o .answer)) (get h n t m row o .left)
+called h n t m (OnRow Get row o) = out (gotNumbers (get h n t m row o .answer)) (get h n t m row o .left)
+called h n t m (OnRow WhyGet row o) = out (whyNumbers (whyGet h n t m row o)) m
 called h n t m (OnBlock GetAt f o) = out (gotNumbers (getAt h n t m f o .answer)) (getAt h n t m f o .left)
 called h n t m (OnBlock Put f o) = out (put h n t m f o .answer ∷ []) (put h n t m f o .left)
 called h n t m (OnBlock IsFree f o) = out (isFree h n t m f o .code ∷ pick (isFree h n t m f o .yes) 1 0 ∷ []) m
+called h n t m (OnBlock WhyGetAt f o) = out (whyNumbers (whyGetAt h n t m f o)) m
+called h n t m (OnBlock WhyPut f o) = out (whyNumbers (whyPut h n t m f o)) m
 called h n t m (OnFrame (StatsAt o) f) = out (statsNumbers (statsAt h n t m f o)) m
 called h n t m (OnFrame Room f) = out (room h n t m f .answer ∷ room h n t m f .left) m
 called h n t m (OnFrame TreeRun f) = out (frameRefusal h n t m f ∷ treeRun h n t m f) m

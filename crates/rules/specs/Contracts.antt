@@ -8,6 +8,7 @@ use Rattle.rules.specs.declared.Got.{Got}
 use Rattle.rules.specs.declared.Stats.{Stats}
 use Rattle.rules.specs.declared.Fault.{Fault}
 use Rattle.rules.specs.declared.Recovered.{Recovered}
+use Rattle.rules.specs.declared.Why.{Why}
 use Rattle.rules.specs.State.{Mem}
 use Rattle.rules.specs.Refusals.{frameRefusal}
 use Rattle.rules.specs.Get.{get, getAt}
@@ -17,6 +18,7 @@ use Rattle.rules.specs.Starts.{freeAll, reserveAll}
 use Rattle.rules.specs.Audit.{audit}
 use Rattle.rules.specs.Recover.{recover}
 use Rattle.rules.specs.Room.{room, treeRun}
+use Rattle.rules.specs.Why.{whyGet, whyGetAt, whyPut}
 
 -- "Get", without a frame and with one; "Put"
 abbrev pub Gets : ℕ → ℕ → ℕ → Mem → ℕ → ℕ → Got → Mem → Type 0
@@ -40,6 +42,16 @@ TellsStatsAt h n t m f o r = r ≡ statsAt h n t m f o
 
 abbrev pub FindsFault : ℕ → ℕ → ℕ → Mem → Fault → Type 0
 FindsFault h n t m r = r ≡ audit h n t m
+
+-- .. why a get without a frame, one with a frame and a put are turned down
+abbrev pub TellsWhyGet : ℕ → ℕ → ℕ → Mem → ℕ → ℕ → Why → Type 0
+TellsWhyGet h n t m row o r = r ≡ whyGet h n t m row o
+
+abbrev pub TellsWhyGetAt : ℕ → ℕ → ℕ → Mem → ℕ → ℕ → Why → Type 0
+TellsWhyGetAt h n t m f o r = r ≡ whyGetAt h n t m f o
+
+abbrev pub TellsWhyPut : ℕ → ℕ → ℕ → Mem → ℕ → ℕ → Why → Type 0
+TellsWhyPut h n t m f o r = r ≡ whyPut h n t m f o
 
 -- .. a code, and the counts beside it
 abbrev pub TellsRoom : ℕ → ℕ → ℕ → Mem → ℕ → ℕ → List ℕ → Type 0

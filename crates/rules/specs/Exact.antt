@@ -1,11 +1,11 @@
 -- What calls make of states. Demand 2: on a consistent state, what each call answers in terms of free and held frames, and which frames it turns.
 pub use Rattle.base.specs.Ring.{stepsTo}
 use Rattle.bitfield_rules.specs.Calls.{answered}
-use Rattle.rules.specs.Words.{_≡_, _⊎_, Bool, true, false, not, _&&_, _||_, ℕ, _+_, _*_, _/_, _%_, _^_, _≤_, _<_, eqb, leb, ltb, pick, all, count, out, unless, Huge, rowsPer, mark, hugeOf, treeOf, topOrder, ceil, treesNeeded, entriesNeeded, groupOf, Mem, blockRefusal, startRefusal, frameRefusal, got, statistics, entryOf, entriesAre, fault, recovered}
+use Rattle.rules.specs.Words.{_≡_, _⊎_, true, false, not, _&&_, _||_, ℕ, _+_, _*_, _/_, _%_, _^_, _≤_, _<_, eqb, leb, ltb, pick, all, count, out, unless, Huge, rowsPer, mark, hugeOf, treeOf, topOrder, ceil, treesNeeded, entriesNeeded, groupOf, Mem, blockRefusal, startRefusal, frameRefusal, got, statistics, entryOf, entriesAre, fault, recovered}
 use Rattle.rules.specs.Call.{Call, left}
 use Rattle.rules.specs.Calls.{get, getAt, put, isFree, stats, statsAt, freeAll, reserveAll, audit, recover}
 use Rattle.rules.specs.Audit.{reason}
-use Rattle.rules.specs.Consistent.{Fits, Consistent, free, held, inBlock}
+use Rattle.rules.specs.Consistent.{Fits, Consistent, ConsistentIn, free, held, entirely, freeFrames, inBlock}
 
 -- an audit that is done answers x and r: huge frame x has that reason (Audit.antt has the five), and none before it has any; where r is 0, none has
 pub record Audited (h n t : ℕ) (m : Mem) (x r : ℕ) : Type 0 where
@@ -67,32 +67,35 @@ pub record First (h n t : ℕ) (m : Mem) (row o a : ℕ) : Type 0 where
   pub taken : Taken h n m (get h n t m row o .left) a o
   pub first : (f : ℕ) → Candidate h n t row o f → rank h t row o f < rank h t row o a → all (free h n m) (2 ^ o) f ≡ false
 
--- the x-th run of s frames is entirely free: a huge frame with s = 2 ^ h, a tree with s = 2 ^ h * t
-abbrev pub entirely : ℕ → ℕ → Mem → ℕ → ℕ → Bool
-entirely h n m s x = all (free h n m) s (x * s)
-
--- of any consistent state
-pub record Exact (h n t : ℕ) (m : Mem) : Type 0 where
+-- of a consistent tree y, whatever the other trees hold
+pub record ExactIn (h n t : ℕ) (m : Mem) (y : ℕ) : Type 0 where
   -- get without a frame, once past checks 1 to 6
-  pub gets : (row o : ℕ) → startRefusal h n t m row o ≡ 0 → Missed h n t m row o ⊎ First h n t m row o (get h n t m row o .answer .frame)
+  pub gets : (row o : ℕ) → treeOf h t (row * 64) ≡ y → startRefusal h n t m row o ≡ 0 → Missed h n t m row o ⊎ First h n t m row o (get h n t m row o .answer .frame)
   -- the order is one: no two blocks have the same turn
   pub ranks : (row o f g : ℕ) → Candidate h n t row o f → Candidate h n t row o g → rank h t row o f ≡ rank h t row o g → f ≡ g
   -- get with a frame is done exactly if all frames of the block are free; from order 9 up that is, if all its huge frames are, which their entries tell
-  pub gets-at : (a o : ℕ) → blockRefusal h n t m a o ≡ 0 → (getAt h n t m a o .answer ≡ pick (all (free h n m) (2 ^ o) a) (got 0 a 1) (got 7 0 1))
+  pub gets-at : (a o : ℕ) → treeOf h t a ≡ y → blockRefusal h n t m a o ≡ 0 → (getAt h n t m a o .answer ≡ pick (all (free h n m) (2 ^ o) a) (got 0 a 1) (got 7 0 1))
       × (all (free h n m) (2 ^ o) a ≡ true → Taken h n m (getAt h n t m a o .left) a o)
   pub huge-frames : (a o : ℕ) → h ≤ o → a % 2 ^ o ≡ 0 → all (free h n m) (2 ^ o) a ≡ all (entirely h n m (2 ^ h)) (groupOf h o) (hugeOf h a)
-  pub entry-tells : (x : ℕ) → x < entriesNeeded h n t → entirely h n m (2 ^ h) x ≡ eqb (entryOf (m .entries) x) (2 ^ h)
+  pub entry-tells : (x : ℕ) → x / t ≡ y → x < entriesNeeded h n t → entirely h n m (2 ^ h) x ≡ eqb (entryOf (m .entries) x) (2 ^ h)
   -- put is done exactly if all frames of the block are held, from order 9 up each of its huge frames whole
-  pub puts : (a o : ℕ) → blockRefusal h n t m a o ≡ 0
+  pub puts : (a o : ℕ) → treeOf h t a ≡ y → blockRefusal h n t m a o ≡ 0
       → (put h n t m a o .answer ≡ unless (all (held h n m) (2 ^ o) a && pick (ltb o h) true (entriesAre mark (m .entries) (hugeOf h a) (groupOf h o))) 7)
       × (put h n t m a o .answer ≡ 0 → Given h n m (put h n t m a o .left) a o)
-  pub asks : (a o : ℕ) → blockRefusal h n t m a o ≡ 0 → isFree h n t m a o ≡ answered 0 (all (free h n m) (2 ^ o) a)
-  pub counts : stats h n t m ≡ statistics 0 (count (free h n m) n 0) (count (entirely h n m (2 ^ h)) (ceil n (2 ^ h)) 0) (count (entirely h n m (2 ^ h * t)) (treesNeeded h n t) 0)
+  pub asks : (a o : ℕ) → treeOf h t a ≡ y → blockRefusal h n t m a o ≡ 0 → isFree h n t m a o ≡ answered 0 (all (free h n m) (2 ^ o) a)
   -- the frame at order 0, its huge frame at order 9, its tree at the top order, and at any other zeros
-  pub counts-at : (f o : ℕ) → frameRefusal h n t m f ≡ 0 → statsAt h n t m f o ≡ pick (eqb o 0) (statistics 0 (pick (free h n m f) 1 0) 0 0)
-      (pick (eqb o h) (statistics 0 (count (free h n m) (2 ^ h) (hugeOf h f * 2 ^ h)) (pick (entirely h n m (2 ^ h) (hugeOf h f)) 1 0) 0)
-      (pick (eqb o (topOrder h t)) (statistics 0 (count (free h n m) (2 ^ h * t) (treeOf h t f * (2 ^ h * t))) (count (entirely h n m (2 ^ h)) t (treeOf h t f * t)) (pick (entirely h n m (2 ^ h * t) (treeOf h t f)) 1 0))
+  pub counts-at : (f o : ℕ) → treeOf h t f ≡ y → frameRefusal h n t m f ≡ 0 → statsAt h n t m f o ≡ pick (eqb o 0) (statistics 0 (pick (free h n m f) 1 0) 0 0)
+      (pick (eqb o h) (statistics 0 (freeFrames h n m (2 ^ h) (hugeOf h f)) (pick (entirely h n m (2 ^ h) (hugeOf h f)) 1 0) 0)
+      (pick (eqb o (topOrder h t)) (statistics 0 (freeFrames h n m (2 ^ h * t) y) (count (entirely h n m (2 ^ h)) t (y * t)) (pick (entirely h n m (2 ^ h * t) y) 1 0))
       (statistics 0 0 0 0)))
+
+-- of a consistent state: so is each tree, and stats counts the frames of them all
+pub record Exact (h n t : ℕ) (m : Mem) : Type 0 where
+  pub trees : (y : ℕ) → ExactIn h n t m y
+  pub counts : stats h n t m ≡ statistics 0 (count (free h n m) n 0) (count (entirely h n m (2 ^ h)) (ceil n (2 ^ h)) 0) (count (entirely h n m (2 ^ h * t)) (treesNeeded h n t) 0)
+
+abbrev pub Demand2In : Type 0
+Demand2In = (h n t : ℕ) (m : Mem) (y : ℕ) → Huge h → ConsistentIn h n t m y → ExactIn h n t m y
 
 abbrev pub Demand2 : Type 0
 Demand2 = (h n t : ℕ) (m : Mem) → Huge h → Consistent h n t m → Exact h n t m

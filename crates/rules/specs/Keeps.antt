@@ -16,7 +16,7 @@ tested h n t m own =
     numberOf 1 ((eqb n 0 || ltb 1048576 n) ∷ not (isTree t) ∷ (ltb (length (m .rows)) (rowsNeeded h n) || ltb (length (m .entries)) (entriesNeeded h n t)) ∷ own)
 
 unfoldable pub own : ℕ → ℕ → ℕ → Call → List Bool
-own h n t (Call.Get row o) = ltb (topOrder h t) o ∷ leb n (row * 64) ∷ []
+own h n t (Call.OnRow c row o) = ltb (topOrder h t) o ∷ leb n (row * 64) ∷ []
 own h n t (Call.OnBlock c f o) = ltb (topOrder h t) o ∷ ltb n (f + 2 ^ o) ∷ not (eqb (f % 2 ^ o) 0) ∷ []
 own h n t (Call.OnFrame c f) = false ∷ leb n f ∷ []
 own h n t (Call.OnAll c) = []
@@ -31,10 +31,12 @@ pub record Keeps (h n t : ℕ) (m : Mem) (number code : ℕ) (left : Mem) : Type
 
 -- the fields of an answer besides its number; a refused tree run has none
 unfoldable pub fields : ℕ → Call → ℕ
-fields h (Call.Get row o) = 2
+fields h (Call.OnRow c row o) = 2
 fields h (Call.OnBlock BlockCall.GetAt f o) = 2
 fields h (Call.OnBlock BlockCall.Put f o) = 0
 fields h (Call.OnBlock BlockCall.IsFree f o) = 1
+fields h (Call.OnBlock BlockCall.WhyGetAt f o) = 2
+fields h (Call.OnBlock BlockCall.WhyPut f o) = 2
 fields h (Call.OnFrame (FrameCall.StatsAt o) f) = 3
 fields h (Call.OnFrame FrameCall.Room f) = orders h
 fields h (Call.OnFrame FrameCall.TreeRun f) = 0

@@ -2,7 +2,7 @@
 use Rattle.rules.specs.Words.{_≡_, Bool, false, not, _&&_, _||_, List, ℕ, _+_, _-_, _^_, _<_, eqb, leb, getD, Huge, mark, hugeOf, entriesNeeded, Mem, entryOf}
 use Rattle.rules.specs.Numbers.{whole}
 use Rattle.rules.specs.Starts.{freeAll, reserveAll}
-use Rattle.rules.specs.Call.{BlockCall, Call, called, left}
+use Rattle.rules.specs.Call.{RowCall, BlockCall, Call, called, left}
 use Rattle.rules.specs.Consistent.{Fits}
 
 -- huge frame x has the mark
@@ -15,10 +15,13 @@ meets h a o x = leb (hugeOf h a) x && leb x (hugeOf h (a + 2 ^ o - 1))
 
 -- whether huge frame x has the mark after a call that answers r and found it at `was`: a done get from order 9 up adds it where its block meets x, a done put takes it away there
 unfoldable pub remarked : ℕ → Call → List ℕ → ℕ → Bool → Bool
-remarked h (Call.Get row o) r x was = was || (leb h o && (eqb (getD r 0 0) 0 && meets h (getD r 1 0) o x))
+remarked h (Call.OnRow RowCall.Get row o) r x was = was || (leb h o && (eqb (getD r 0 0) 0 && meets h (getD r 1 0) o x))
+remarked h (Call.OnRow RowCall.WhyGet row o) r x was = was
 remarked h (Call.OnBlock BlockCall.GetAt a o) r x was = was || (leb h o && (eqb (getD r 0 0) 0 && meets h (getD r 1 0) o x))
 remarked h (Call.OnBlock BlockCall.Put a o) r x was = was && not (eqb (getD r 0 0) 0 && meets h a o x)
 remarked h (Call.OnBlock BlockCall.IsFree a o) r x was = was
+remarked h (Call.OnBlock BlockCall.WhyGetAt a o) r x was = was
+remarked h (Call.OnBlock BlockCall.WhyPut a o) r x was = was
 remarked h (Call.OnFrame c a) r x was = was
 remarked h (Call.OnAll c) r x was = was
 

@@ -4,7 +4,7 @@ use Rattle.rules.specs.Call.{Call, called, left}
 
 -- a call is on tree y; "stats, audit, recover .. read everything and are not covered"
 unfoldable pub On : ℕ → ℕ → ℕ → Call → Type 0
-On h t y (Call.Get row o) = treeOf h t (row * 64) ≡ y
+On h t y (Call.OnRow c row o) = treeOf h t (row * 64) ≡ y
 On h t y (Call.OnBlock c f o) = treeOf h t f ≡ y
 On h t y (Call.OnFrame c f) = treeOf h t f ≡ y
 On h t y (Call.OnAll c) = ⊥

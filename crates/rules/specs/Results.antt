@@ -4,7 +4,7 @@ use Rattle.row.specs.Row as row
 use Rattle.row.specs.Contracts.{FindsInRow}
 use Rattle.bitfield_rules.specs.Contracts.{Sets, Fills, Toggles, TellsZero, CountsZeros, FindsZeros, SetsFirstZeros}
 use Rattle.rules.specs.Put.{put}
-use Rattle.rules.specs.Contracts.{Gets, GetsAt, Puts, AsksFree, TellsStats, TellsStatsAt, FindsFault, TellsRoom, LendsRun, TellsRunCode, FreesAll, ReservesAll, Recovers}
+use Rattle.rules.specs.Contracts.{Gets, GetsAt, Puts, AsksFree, TellsStats, TellsStatsAt, FindsFault, TellsWhyGet, TellsWhyGetAt, TellsWhyPut, TellsRoom, LendsRun, TellsRunCode, FreesAll, ReservesAll, Recovers}
 
 -- "two results satisfying one contract are equal": of a contract on an answer, and of one on an answer and what is left
 abbrev pub One : {A : Type 0} → (A → Type 0) → Type 0
@@ -20,6 +20,7 @@ pub record ResultsAreEqual (h n t : ℕ) (m : Mem) (rows : List ℕ) (v f o : �
   pub puts : OneLeft (Puts h n t m f o)
   pub asks : One (AsksFree h n t m f o) × (One (TellsStats h n t m) × One (TellsStatsAt h n t m f o))
   pub audits : One (FindsFault h n t m) × OneLeft (Recovers h n t m)
+  pub whys : One (TellsWhyGet h n t m f o) × (One (TellsWhyGetAt h n t m f o) × One (TellsWhyPut h n t m f o))
   pub rooms : OneLeft (TellsRoom h n t m f)
   pub tree-runs : One (LendsRun h n t m f) × One (TellsRunCode h n t m f)
   pub row-searches : One (FindsInRow v o)

@@ -1,14 +1,17 @@
 -- Runs of calls of one N and one T: the ledger of frames taken and given back, demand 3, and two claimants that never share a frame.
 use Rattle.rules.specs.Words.{_≡_, Bool, true, false, not, _&&_, _||_, List, [], _∷_, ℕ, eqb, getD, Huge, Mem}
-use Rattle.rules.specs.Call.{BlockCall, Call, called, left}
+use Rattle.rules.specs.Call.{RowCall, BlockCall, Call, called, left}
 use Rattle.rules.specs.Consistent.{Consistent, free, held, inBlock}
 
 -- the ledger's word on frame f, whether it is out, after a call that answers r and found it at `was`: a done get writes its block down, a done put strikes it out
 unfoldable pub noted : Call → List ℕ → ℕ → Bool → Bool
-noted (Call.Get row o) r f was = was || (eqb (getD r 0 0) 0 && inBlock (getD r 1 0) o f)
+noted (Call.OnRow RowCall.Get row o) r f was = was || (eqb (getD r 0 0) 0 && inBlock (getD r 1 0) o f)
+noted (Call.OnRow RowCall.WhyGet row o) r f was = was
 noted (Call.OnBlock BlockCall.GetAt a o) r f was = was || (eqb (getD r 0 0) 0 && inBlock (getD r 1 0) o f)
 noted (Call.OnBlock BlockCall.Put a o) r f was = was && not (eqb (getD r 0 0) 0 && inBlock a o f)
 noted (Call.OnBlock BlockCall.IsFree a o) r f was = was
+noted (Call.OnBlock BlockCall.WhyGetAt a o) r f was = was
+noted (Call.OnBlock BlockCall.WhyPut a o) r f was = was
 noted (Call.OnFrame c a) r f was = was
 noted (Call.OnAll c) r f was = was
 

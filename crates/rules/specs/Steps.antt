@@ -1,10 +1,11 @@
 -- Past checks 1 to 6, on any memory, consistent or damaged: when a call is refused with 7, when with 8, and what it takes or gives back otherwise, in bits and entries.
-use Rattle.rules.specs.Words.{_≡_, Bool, true, false, not, _&&_, _||_, ℕ, _+_, _-_, _*_, _/_, _%_, _^_, eqb, leb, ltb, pick, first, all, unless, Huge, rowsPer, bitIs, blockIs, mark, hugeOf, groupOf, entriesNeeded, Mem, entryOf, freeOf, entriesAre, blockRefusal, startRefusal, got, recovered}
+use Rattle.rules.specs.Words.{_≡_, Bool, true, false, not, _&&_, _||_, ℕ, _+_, _-_, _*_, _/_, _%_, _^_, eqb, leb, ltb, pick, first, all, unless, Huge, rowsPer, bitIs, blockIs, mark, hugeOf, treeOf, groupOf, entriesNeeded, Mem, entryOf, freeOf, entriesAre, blockRefusal, startRefusal, got, recovered}
 use Rattle.rules.specs.declared.Got.{Got}
-use Rattle.rules.specs.Call.{BlockCall, AllCall, Call}
+use Rattle.rules.specs.Call.{RowCall, BlockCall, AllCall, Call}
 use Rattle.rules.specs.Calls.{get, getAt, put, recover}
 use Rattle.rules.specs.Audit.{reason}
 use Rattle.rules.specs.Consistent.{inBlock}
+use Rattle.rules.specs.Why.{sound}
 
 -- the place in huge frame x that a get looks at after k others: "orders 0 to 6: from (start row mod 8), wrapping", "7 and 8: from row 0"
 abbrev pub place : ℕ → ℕ → ℕ → ℕ → ℕ → ℕ
@@ -42,7 +43,7 @@ getSteps h n t m row o =
 
 -- the number of each call
 unfoldable pub steps : ℕ → ℕ → ℕ → Mem → Call → ℕ
-steps h n t m (Call.Get row o) = getSteps h n t m row o .code
+steps h n t m (Call.OnRow RowCall.Get row o) = getSteps h n t m row o .code
 -- "Entry marked or below 2^order is 7; bits not all clear is 7, or 8 if the count is above 512", "Order 9 and up: all entries 512, else 7"
 steps h n t m (Call.OnBlock BlockCall.GetAt a o) =
     let e = entryOf (m .entries) (hugeOf h a) in
@@ -58,6 +59,10 @@ steps h n t m (Call.OnBlock BlockCall.Put a o) =
 -- "8 if any huge frame has reason 1, 3 or 5"
 steps h n t m (Call.OnAll AllCall.Recover) =
     unless (all (λ x. not (eqb (reason h n m x) 1 || eqb (reason h n m x) 3 || eqb (reason h n m x) 5)) (entriesNeeded h n t) 0) 8
+-- "then 8 if the tree isn't consistent": the tree of the request
+steps h n t m (Call.OnRow RowCall.WhyGet row o) = unless (sound h n t m (treeOf h t (row * 64))) 8
+steps h n t m (Call.OnBlock BlockCall.WhyGetAt a o) = unless (sound h n t m (treeOf h t a)) 8
+steps h n t m (Call.OnBlock BlockCall.WhyPut a o) = unless (sound h n t m (treeOf h t a)) 8
 steps h n t m (Call.OnBlock BlockCall.IsFree a o) = 0
 steps h n t m (Call.OnFrame c f) = 0
 steps h n t m (Call.OnAll AllCall.Stats) = 0

@@ -51,3 +51,10 @@ pub struct Rooms {
     pub code: u32,
     pub counts: [usize; 19],
 }
+
+// Why a get or a put is turned down: document 01's number of the question itself, document 02's reason, and the frame beside it.
+pub struct Why {
+    pub code: u32,
+    pub reason: u32,
+    pub frame: usize,
+}

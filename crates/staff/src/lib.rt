@@ -1,11 +1,12 @@
-// What staff call: is the state sound, put counts right, how much room has a tree, and its entries. Each call takes any
-// numbers and any contents, and a call that is refused writes nothing.
+// What staff call: is the state sound, put counts right, why was a request turned down, how much room has a tree, and its
+// entries. Each call takes any numbers and any contents, and a call that is refused writes nothing.
 ghost use Rattle.base.specs.Size.{hugeOrder};
 ghost use Rattle.rules.specs.State.{mem};
-ghost use Rattle.rules.specs.Contracts.{FindsFault, TellsRoom, LendsRun, TellsRunCode, Recovers};
+ghost use Rattle.rules.specs.Contracts.{FindsFault, TellsWhyGet, TellsWhyGetAt, TellsWhyPut, TellsRoom, LendsRun, TellsRunCode, Recovers};
 use rules::Fault;
 use rules::Recovered;
 use rules::Rooms;
+use rules::Why;
 
 // The first faulty huge frame, and why it is.
 pub fn audit(n: usize, t: usize, rows: &[u64], entries: &[u16]) -> Fault
@@ -19,6 +20,34 @@ pub fn recover(n: usize, t: usize, rows: &mut [u64], entries: &mut [u16]) -> Rec
     ensures { λ r. ⌜ Recovers hugeOrder n t (mem (now (rows .entry)) (now (entries .entry))) r (mem (now (rows .exit)) (now (entries .exit))) ⌝ }
 {
     staff_h::recover(base::HUGE_ORDER, n, t, rows, entries)
+}
+
+// Why a get from a start row would be turned down.
+pub fn why_get(n: usize, t: usize, rows: &[u64], entries: &[u16], row: usize, order: usize) -> Why
+    ensures { λ r. ⌜ TellsWhyGet hugeOrder n t (mem (now (rows .entry)) (now (entries .entry))) row order r ⌝ }
+{
+    staff_h::why_get(base::HUGE_ORDER, n, t, rows, entries, row, order)
+}
+
+// Why a get of the block at a frame would be.
+pub fn why_get_at(
+    n: usize,
+    t: usize,
+    rows: &[u64],
+    entries: &[u16],
+    frame: usize,
+    order: usize,
+) -> Why
+    ensures { λ r. ⌜ TellsWhyGetAt hugeOrder n t (mem (now (rows .entry)) (now (entries .entry))) frame order r ⌝ }
+{
+    staff_h::why_get_at(base::HUGE_ORDER, n, t, rows, entries, frame, order)
+}
+
+// Why a put of the block at a frame would be.
+pub fn why_put(n: usize, t: usize, rows: &[u64], entries: &[u16], frame: usize, order: usize) -> Why
+    ensures { λ r. ⌜ TellsWhyPut hugeOrder n t (mem (now (rows .entry)) (now (entries .entry))) frame order r ⌝ }
+{
+    staff_h::why_put(base::HUGE_ORDER, n, t, rows, entries, frame, order)
 }
 
 // The room of a frame's tree.

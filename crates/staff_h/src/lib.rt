@@ -4,9 +4,10 @@ ghost use lib.ListN.{replicate};
 ghost use Rattle.base.specs.Size.{Huge};
 ghost use Rattle.rules.specs.State.{mem};
 ghost use Rattle.rules.specs.Room.{orders};
-ghost use Rattle.rules.specs.Contracts.{FindsFault, TellsRoom, LendsRun, Recovers};
+ghost use Rattle.rules.specs.Contracts.{FindsFault, TellsWhyGet, TellsWhyGetAt, TellsWhyPut, TellsRoom, LendsRun, Recovers};
 use rules::Fault;
 use rules::Recovered;
+use rules::Why;
 
 pub fn audit(h: usize, n: usize, t: usize, rows: &[u64], entries: &[u16]) -> Fault
     requires { ⌜ Huge h ⌝ }
@@ -36,6 +37,100 @@ pub fn recover(h: usize, n: usize, t: usize, rows: &mut [u64], entries: &mut [u1
         };
     }
     recover::all(h, n, t, rows, entries)
+}
+
+pub fn why_get(
+    h: usize,
+    n: usize,
+    t: usize,
+    rows: &[u64],
+    entries: &[u16],
+    row: usize,
+    order: usize,
+) -> Why
+    requires { ⌜ Huge h ⌝ }
+    ensures { λ r. ⌜ TellsWhyGet h n t (mem (now (rows .entry)) (now (entries .entry))) row order r ⌝ }
+{
+    let code = refuse::start(h, n, t, rows.len(), entries.len(), row, order);
+    if code != 0 {
+        return Why {
+            code: code,
+            reason: 0,
+            frame: 0,
+        };
+    }
+    if !why::sound(h, n, t, rows, entries, row * 64) {
+        return Why {
+            code: 8,
+            reason: 0,
+            frame: 0,
+        };
+    }
+    Why {
+        code: 0,
+        reason: why::get(h, t, rows, entries, row * 64, order),
+        frame: 0,
+    }
+}
+
+pub fn why_get_at(
+    h: usize,
+    n: usize,
+    t: usize,
+    rows: &[u64],
+    entries: &[u16],
+    frame: usize,
+    order: usize,
+) -> Why
+    requires { ⌜ Huge h ⌝ }
+    ensures { λ r. ⌜ TellsWhyGetAt h n t (mem (now (rows .entry)) (now (entries .entry))) frame order r ⌝ }
+{
+    let code = refuse::block(h, n, t, rows.len(), entries.len(), frame, order);
+    if code != 0 {
+        return Why {
+            code: code,
+            reason: 0,
+            frame: 0,
+        };
+    }
+    if !why::sound(h, n, t, rows, entries, frame) {
+        return Why {
+            code: 8,
+            reason: 0,
+            frame: 0,
+        };
+    }
+    why::get_at(h, rows, entries, frame, order)
+}
+
+pub fn why_put(
+    h: usize,
+    n: usize,
+    t: usize,
+    rows: &[u64],
+    entries: &[u16],
+    frame: usize,
+    order: usize,
+) -> Why
+    requires { ⌜ Huge h ⌝ }
+    ensures { λ r. ⌜ TellsWhyPut h n t (mem (now (rows .entry)) (now (entries .entry))) frame order r ⌝ }
+{
+    let code = refuse::block(h, n, t, rows.len(), entries.len(), frame, order);
+    if code != 0 {
+        return Why {
+            code: code,
+            reason: 0,
+            frame: 0,
+        };
+    }
+    if !why::sound(h, n, t, rows, entries, frame) {
+        return Why {
+            code: 8,
+            reason: 0,
+            frame: 0,
+        };
+    }
+    why::put(h, rows, entries, frame, order)
 }
 
 // Fills in counts that are 0, and leaves them so where it is refused.
