@@ -65,7 +65,7 @@
 #define RB_BAD_RANGE 5     /* the block ends past N; or the frame, or in rb_get row * 64, is not below N */
 #define RB_BAD_ALIGNMENT 6 /* the block's first frame is not a multiple of 2^order */
 #define RB_MEMORY 7        /* get: no such block is free, or not all of the given one; put: not all of it is
-                            * held, or from order 9 up not held whole */
+                            * held, or from order 9 up not held whole; rb_why_get and the like say more */
 #define RB_DAMAGE 8        /* the call came upon a state that is not consistent */
 
 /* What an audit says of a huge frame. */
@@ -75,6 +75,15 @@
 #define RB_BIT_PAST_END 3 /* a bit of it is clear, of frame N or a later one */
 #define RB_WRONG_COUNT 4  /* its entry is not the number of its clear bits */
 #define RB_ABSENT_ENTRY 5 /* it is absent, and its entry is not 0 */
+
+/* Why a get or a put would be refused with 7. */
+#define RB_WHY_DONE 0        /* it would not be: it would be done */
+#define RB_WHY_TOO_FEW 1     /* get: the tree has fewer than 2^order free frames */
+#define RB_WHY_SPREAD 2      /* get: it has enough, but the order is below 9 and no huge frame of it has */
+#define RB_WHY_NO_BLOCK 3    /* get: otherwise, no block of the order is free in it */
+#define RB_WHY_HELD 4        /* get at a frame: a frame of the block is held */
+#define RB_WHY_FREE 5        /* put: a frame of the block is free */
+#define RB_WHY_HELD_SINGLY 6 /* put: all are held, but a huge frame of the block is held singly, not whole */
 
 #ifdef __cplusplus
 extern "C" {
@@ -180,6 +189,34 @@ uint32_t rb_room(size_t n, size_t t, const uint64_t *rows, size_t rows_len,
 uint32_t rb_tree_run(size_t n, size_t t, const uint64_t *rows, size_t rows_len,
                      const uint16_t *entries, size_t entries_len, size_t frame, size_t *offset,
                      size_t *length);
+
+/* -- Why: for what reason a get or a put would be refused with 7 ----------------------------------
+ *
+ * Each is given what the request itself would be, and writes nothing but its results: a reason,
+ * RB_WHY_.., and with reasons 4 to 6 a frame, which is 0 with the others. The code is of the question
+ * itself, and is RB_DONE for any reason.
+ *
+ * Refused: 1 to 6 as the request itself; then 8 if the tree that is asked for is not consistent: its own
+ * huge frames, the absent ones too. Other trees don't matter. If refused, reason and frame are 0. */
+
+/* Of rb_get: *reason is RB_WHY_TOO_FEW, RB_WHY_SPREAD or RB_WHY_NO_BLOCK, or it would be done. *frame is 0.
+ * Refused: 1 to 4; 5 if row * 64 >= N; 8. */
+uint32_t rb_why_get(size_t n, size_t t, const uint64_t *rows, size_t rows_len,
+                    const uint16_t *entries, size_t entries_len, size_t row, size_t order,
+                    uint32_t *reason, size_t *frame);
+
+/* Of rb_get_at: *reason is RB_WHY_HELD, and *at the lowest held frame of the block; or it would be done.
+ * Refused: 1 to 6; 8. */
+uint32_t rb_why_get_at(size_t n, size_t t, const uint64_t *rows, size_t rows_len,
+                       const uint16_t *entries, size_t entries_len, size_t frame, size_t order,
+                       uint32_t *reason, size_t *at);
+
+/* Of rb_put: *reason is RB_WHY_FREE, and *at the lowest free frame of the block; or RB_WHY_HELD_SINGLY, and
+ * *at the first frame of its lowest huge frame that is held singly; or it would be done.
+ * Refused: 1 to 6; 8. */
+uint32_t rb_why_put(size_t n, size_t t, const uint64_t *rows, size_t rows_len,
+                    const uint16_t *entries, size_t entries_len, size_t frame, size_t order,
+                    uint32_t *reason, size_t *at);
 
 /* -- One bitfield: the eight rows of a huge frame, by themselves ----------------------------------
  *
@@ -320,6 +357,24 @@ static inline uint32_t rb_state_tree_run(const struct rb_state *state, size_t fr
     return rb_tree_run(RB_LENT(state), frame, offset, length);
 }
 
+static inline uint32_t rb_state_why_get(const struct rb_state *state, size_t row, size_t order,
+                                        uint32_t *reason, size_t *frame)
+{
+    return rb_why_get(RB_LENT(state), row, order, reason, frame);
+}
+
+static inline uint32_t rb_state_why_get_at(const struct rb_state *state, size_t frame, size_t order,
+                                           uint32_t *reason, size_t *at)
+{
+    return rb_why_get_at(RB_LENT(state), frame, order, reason, at);
+}
+
+static inline uint32_t rb_state_why_put(const struct rb_state *state, size_t frame, size_t order,
+                                        uint32_t *reason, size_t *at)
+{
+    return rb_why_put(RB_LENT(state), frame, order, reason, at);
+}
+
 /* The order of the largest block that begins at a frame and ends at or before another frame, at most the
  * top order. By it a range of frames is walked in blocks; docs/KERNEL.md starts memory with holes so. */
 static inline size_t rb_block_order(size_t frame, size_t end, size_t top)
@@ -355,6 +410,29 @@ static inline const char *rb_text(uint32_t code)
         return "damaged state";
     default:
         return "not a code";
+    }
+}
+
+/* What a reason of rb_why_get, rb_why_get_at or rb_why_put says, in words. */
+static inline const char *rb_why_text(uint32_t reason)
+{
+    switch (reason) {
+    case RB_WHY_DONE:
+        return "it would be done";
+    case RB_WHY_TOO_FEW:
+        return "the tree has too few free frames";
+    case RB_WHY_SPREAD:
+        return "the tree has enough free frames, but no huge frame of it has";
+    case RB_WHY_NO_BLOCK:
+        return "the tree has enough free frames, but no aligned block of them";
+    case RB_WHY_HELD:
+        return "a frame of the block is held";
+    case RB_WHY_FREE:
+        return "a frame of the block is free";
+    case RB_WHY_HELD_SINGLY:
+        return "a huge frame of the block is held singly, not whole";
+    default:
+        return "not a reason";
     }
 }
 

@@ -36,6 +36,10 @@ static void each_call_once(void)
     for (size_t order = 0; order < RB_ORDERS; order++)
         CHECK(counts[order] == room[order]);
     CHECK(rb_state_tree_run(&zone, 2049, &offset, &length) == RB_DONE && offset == 4 && length == 2);
+    CHECK(rb_state_why_get(&zone, 9, 10, &reason, &frame) == RB_DONE && reason == RB_WHY_TOO_FEW && frame == 0);
+    CHECK(rb_state_why_get_at(&zone, 512, 9, &reason, &frame) == RB_DONE && reason == RB_WHY_HELD && frame == 576);
+    CHECK(rb_state_why_put(&zone, 576, 4, &reason, &frame) == RB_DONE && reason == RB_WHY_FREE && frame == 584);
+    CHECK(rb_state_why_put(&zone, 1024, 9, &reason, &frame) == RB_DONE && reason == RB_WHY_DONE && frame == 0);
     zone.entries[3] = 5;
     CHECK(rb_state_audit(&zone, &huge, &reason) == RB_DONE && huge == 3 && reason == RB_WRONG_COUNT);
     CHECK(rb_state_recover(&zone, &entries_changed, &bitfields_changed) == RB_DONE);

@@ -1,6 +1,6 @@
 /* Every call of include/ravelbeam.h, over the archive that users link: what it answers, what it leaves in the memory
- * that it is lent, and that it touches nothing else. What is expected is document 01's. Run by tests/c/run; the first
- * check that fails is printed, and ends the run with status 1. */
+ * that it is lent, and that it touches nothing else. What is expected is document 01's, and of the reasons document 02's.
+ * Run by tests/c/run; the first check that fails is printed, and ends the run with status 1. */
 
 #include <stdio.h>
 #include <stdlib.h>
@@ -107,6 +107,12 @@ static void answered(int line, const char *call, uint32_t code, int may_write)
 #define ROOM(at, code, c) (ASK(code, rb_room(LENT, at, counts)), CHECK(memcmp(counts, c, sizeof counts) == 0))
 #define TREE_RUN(at, code, o, l) \
     (ASK(code, rb_tree_run(LENT, at, &offset, &length)), CHECK(offset == o && length == l))
+#define WHY_GET(start_row, order, code, r) \
+    (ASK(code, rb_why_get(LENT, start_row, order, &reason, &frame)), CHECK(reason == r && frame == 0))
+#define WHY_GET_AT(at, order, code, r, f) \
+    (ASK(code, rb_why_get_at(LENT, at, order, &reason, &frame)), CHECK(reason == r && frame == f))
+#define WHY_PUT(at, order, code, r, f) \
+    (ASK(code, rb_why_put(LENT, at, order, &reason, &frame)), CHECK(reason == r && frame == f))
 
 #define SET(lent, start, end, value, code) CALL(code, rb_bitfield_set(rows, lent, start, end, value))
 #define FILL(lent, value, code) CALL(code, rb_bitfield_fill(rows, lent, value))
@@ -213,6 +219,9 @@ static void all_refused(uint32_t code)
     RECOVER(code, 0, 0);
     ROOM(0, code, no_room);
     TREE_RUN(0, code, 0, 0);
+    WHY_GET(0, 0, code, 0);
+    WHY_GET_AT(0, 0, code, 0, 0);
+    WHY_PUT(0, 0, code, 0, 0);
 }
 
 /* .. those on a block by the block. */
@@ -221,6 +230,15 @@ static void block_refused(size_t at, size_t order, uint32_t code)
     GET_AT(at, order, code, 0, 0);
     PUT(at, order, code);
     IS_FREE(at, order, code, 0);
+    WHY_GET_AT(at, order, code, 0, 0);
+    WHY_PUT(at, order, code, 0, 0);
+}
+
+/* .. those from a start row by the row. */
+static void start_refused(size_t start_row, size_t order, uint32_t code)
+{
+    GET(start_row, order, code, 0, 0);
+    WHY_GET(start_row, order, code, 0);
 }
 
 /* .. those on a frame by the frame. */
@@ -264,10 +282,10 @@ static void bad_arguments(void)
     block_refused(256, 9, RB_BAD_ALIGNMENT);
     frame_refused(1000, RB_BAD_RANGE);
     frame_refused(SIZE_MAX, RB_BAD_RANGE);
-    GET(0, 11, RB_BAD_ORDER, 0, 0);
-    GET(16, SIZE_MAX, RB_BAD_ORDER, 0, 0);
-    GET(16, 0, RB_BAD_RANGE, 0, 0);
-    GET((size_t)1 << 58, 0, RB_BAD_RANGE, 0, 0);
+    start_refused(0, 11, RB_BAD_ORDER);
+    start_refused(16, SIZE_MAX, RB_BAD_ORDER);
+    start_refused(16, 0, RB_BAD_RANGE);
+    start_refused((size_t)1 << 58, 0, RB_BAD_RANGE);
     GET(15, 0, RB_DONE, 960, 1);
     GET_AT(999, 0, RB_DONE, 999, 1);
     rows_len = 0;
@@ -368,16 +386,20 @@ static void borrow_and_return(void)
         for (size_t order = 0; (size_t)1 << order <= 512 * tree; order++) {
             const size_t start_rows[] = {0, n / 128, (n - 1) / 64};
             for (size_t i = 0; i < LENGTH(start_rows); i++) {
+                ASK(RB_DONE, rb_why_get(LENT, start_rows[i], order, &reason, &frame));
                 uint32_t code = rb_get(LENT, start_rows[i], order, &frame, &probes);
-                CHECK(code == RB_DONE || code == RB_MEMORY);
+                CHECK(code == (reason == RB_WHY_DONE ? RB_DONE : RB_MEMORY));
                 if (code == RB_DONE)
                     frames[count] = frame, orders[count++] = order;
             }
         }
         AUDIT(RB_DONE, 0, RB_SOUND);
         CHECK(count > 9 && memcmp(&memory, &whole, sizeof memory) != 0);
-        for (size_t i = 0; i < count; i++)
+        for (size_t i = 0; i < count; i++) {
+            WHY_PUT(frames[i], orders[i], RB_DONE, RB_WHY_DONE, 0);
             PUT(frames[i], orders[i], RB_DONE);
+            WHY_PUT(frames[i], orders[i], RB_DONE, RB_WHY_FREE, frames[i]);
+        }
         CHECK(memcmp(&memory, &whole, sizeof memory) == 0);
     }
 }
@@ -480,6 +502,118 @@ static void trees(void)
     TREE_RUN(RB_MAX_FRAMES - 1, RB_DONE, 1536, 512);
     GET(RB_MAX_FRAMES / 64 - 1, 18, RB_DONE, 1536 * 512, 1);
     ROOM(RB_MAX_FRAMES - 1, RB_DONE, no_room);
+}
+
+/* Gives single frames back. */
+static void put_frames(size_t from, size_t to)
+{
+    for (size_t at = from; at < to; at++)
+        PUT(at, 0, RB_DONE);
+}
+
+/* Why a get or a put would be refused with 7: each reason, in the first of two trees of two huge frames, of which the
+ * second tree has one of 40 frames and one that is absent. */
+static void reasons(void)
+{
+    start(1064, 2);
+    RESERVE_ALL(RB_DONE);
+    put_frames(1024, 1064);
+    WHY_GET(0, 0, RB_DONE, RB_WHY_TOO_FEW);
+    put_frames(0, 37);
+    WHY_GET(3, 6, RB_DONE, RB_WHY_TOO_FEW);
+    WHY_GET(3, 10, RB_DONE, RB_WHY_TOO_FEW);
+    put_frames(512, 549);
+    WHY_GET(3, 6, RB_DONE, RB_WHY_SPREAD);
+    WHY_GET(15, 6, RB_DONE, RB_WHY_SPREAD);
+    WHY_GET(3, 5, RB_DONE, RB_WHY_DONE);
+    put_frames(640, 667);
+    WHY_GET(3, 6, RB_DONE, RB_WHY_NO_BLOCK);
+    GET(3, 6, RB_MEMORY, 0, 2);
+    put_frames(549, 576);
+    WHY_GET(3, 6, RB_DONE, RB_WHY_DONE);
+    WHY_GET(16, 5, RB_DONE, RB_WHY_DONE);
+    WHY_GET(16, 6, RB_DONE, RB_WHY_TOO_FEW);
+
+    WHY_GET_AT(512, 6, RB_DONE, RB_WHY_DONE, 0);
+    WHY_GET_AT(512, 7, RB_DONE, RB_WHY_HELD, 576);
+    WHY_GET_AT(0, 10, RB_DONE, RB_WHY_HELD, 37);
+    GET_AT(0, 10, RB_MEMORY, 0, 1);
+    WHY_PUT(576, 6, RB_DONE, RB_WHY_DONE, 0);
+    WHY_PUT(640, 6, RB_DONE, RB_WHY_FREE, 640);
+    WHY_PUT(32, 5, RB_DONE, RB_WHY_FREE, 32);
+    WHY_PUT(0, 10, RB_DONE, RB_WHY_FREE, 0);
+    WHY_PUT(1024, 5, RB_DONE, RB_WHY_FREE, 1024);
+
+    /* Huge frame 0 is held whole, 1 frame by frame. */
+    start(1064, 2);
+    GET(0, 9, RB_DONE, 0, 1);
+    GET(8, 8, RB_DONE, 512, 1);
+    WHY_PUT(0, 10, RB_DONE, RB_WHY_FREE, 768);
+    WHY_GET(0, 9, RB_DONE, RB_WHY_TOO_FEW);
+    GET(8, 8, RB_DONE, 768, 1);
+    WHY_PUT(0, 10, RB_DONE, RB_WHY_HELD_SINGLY, 512);
+    WHY_PUT(512, 9, RB_DONE, RB_WHY_HELD_SINGLY, 512);
+    PUT(512, 9, RB_MEMORY);
+    WHY_PUT(0, 9, RB_DONE, RB_WHY_DONE, 0);
+    WHY_PUT(512, 8, RB_DONE, RB_WHY_DONE, 0);
+    WHY_GET_AT(100, 2, RB_DONE, RB_WHY_HELD, 100);
+    WHY_GET(0, 0, RB_DONE, RB_WHY_TOO_FEW);
+    PUT(0, 8, RB_DONE);
+    GET(0, 8, RB_DONE, 0, 1);
+    WHY_PUT(0, 10, RB_DONE, RB_WHY_HELD_SINGLY, 0);
+
+    /* The reason 2 is for orders below 9 alone, and at T = 1 a tree is a huge frame. */
+    start(1024, 2);
+    GET(0, 0, RB_DONE, 0, 1);
+    GET(8, 0, RB_DONE, 512, 1);
+    WHY_GET(0, 9, RB_DONE, RB_WHY_NO_BLOCK);
+    WHY_GET(0, 8, RB_DONE, RB_WHY_DONE);
+    start(1024, 1);
+    GET(0, 0, RB_DONE, 0, 1);
+    WHY_GET(0, 9, RB_DONE, RB_WHY_TOO_FEW);
+    WHY_GET(8, 9, RB_DONE, RB_WHY_DONE);
+}
+
+/* The questions of the first tree have one code, and those of the second another. */
+static void asked(uint32_t first, uint32_t second)
+{
+    for (size_t at = 0; at < n; at += 1024) {
+        uint32_t code = at == 0 ? first : second;
+
+        ASK(code, rb_why_get(LENT, at / 64, 0, &reason, &frame));
+        CHECK(reason == 0 && frame == 0);
+        ASK(code, rb_why_get_at(LENT, at + 2, 1, &reason, &frame));
+        CHECK(reason == 0 && frame == 0);
+        ASK(code, rb_why_put(LENT, at, 1, &reason, &frame));
+        CHECK(reason == (code == RB_DONE ? RB_WHY_FREE : 0) && frame == (code == RB_DONE ? at : 0));
+    }
+}
+
+/* They are refused with 8 by damage in their own tree alone. */
+static void damaged_tree(void)
+{
+    start(1064, 2);
+    asked(RB_DONE, RB_DONE);
+    entries[1] = 511;
+    asked(RB_DAMAGE, RB_DONE);
+    WHY_GET(0, 11, RB_BAD_ORDER, 0);
+    WHY_GET(17, 0, RB_BAD_RANGE, 0);
+    WHY_GET_AT(1, 1, RB_BAD_ALIGNMENT, 0, 0);
+    WHY_PUT(1, 1, RB_BAD_ALIGNMENT, 0, 0);
+    entries[1] = 512, rows[7] = 1;
+    asked(RB_DAMAGE, RB_DONE);
+    rows[7] = 0, entries[1] = RB_MARK, rows[8] = 1;
+    asked(RB_DAMAGE, RB_DONE);
+    rows[8] = 0;
+    asked(RB_DONE, RB_DONE);
+    entries[3] = 1;
+    asked(RB_DONE, RB_DAMAGE);
+    entries[3] = 0, entries[2] = RB_MARK;
+    asked(RB_DONE, RB_DAMAGE);
+    entries[2] = 40 + 64, rows[23] = 0;
+    asked(RB_DONE, RB_DAMAGE);
+    entries[2] = 40, rows[23] = ONES;
+    asked(RB_DONE, RB_DONE);
 }
 
 /* The calls on a block of a bitfield are refused. */
@@ -586,7 +720,7 @@ static void ranges(void)
         }
 }
 
-/* Top orders, and codes in words that tell them apart. */
+/* Top orders, and codes and reasons in words that tell them apart. */
 static void numbers_and_words(void)
 {
     static const char orders[RB_TOP_ORDER(512) + 1];
@@ -600,6 +734,12 @@ static void numbers_and_words(void)
     CHECK(strcmp(rb_text(RB_DONE), "done") == 0 && strcmp(rb_text(UINT32_MAX), rb_text(9)) == 0);
     CHECK(strcmp(rb_text(RB_MEMORY), "get: no such block is free; put: not all of it is held, or from order 9 up not "
                                      "held whole") == 0);
+    for (uint32_t why = 0; why <= RB_WHY_HELD_SINGLY + 1; why++)
+        for (uint32_t other = 0; other < why; other++)
+            CHECK(strcmp(rb_why_text(why), rb_why_text(other)) != 0);
+    CHECK(strcmp(rb_why_text(RB_WHY_DONE), "it would be done") == 0);
+    CHECK(strcmp(rb_why_text(RB_WHY_HELD), "a frame of the block is held") == 0);
+    CHECK(strcmp(rb_why_text(UINT32_MAX), "not a reason") == 0);
 }
 
 int main(void)
@@ -613,6 +753,8 @@ int main(void)
     queries();
     faults();
     trees();
+    reasons();
+    damaged_tree();
     bitfield();
     each_call_once();
     ranges();

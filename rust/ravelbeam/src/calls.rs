@@ -140,6 +140,42 @@ unsafe extern "C" {
         entries_changed: &mut usize,
         bitfields_changed: &mut usize,
     ) -> u32;
+    pub fn rb_why_get(
+        n: usize,
+        t: usize,
+        rows: *const u64,
+        rows_len: usize,
+        entries: *const u16,
+        entries_len: usize,
+        row: usize,
+        order: usize,
+        reason: &mut u32,
+        frame: &mut usize,
+    ) -> u32;
+    pub fn rb_why_get_at(
+        n: usize,
+        t: usize,
+        rows: *const u64,
+        rows_len: usize,
+        entries: *const u16,
+        entries_len: usize,
+        frame: usize,
+        order: usize,
+        reason: &mut u32,
+        at: &mut usize,
+    ) -> u32;
+    pub fn rb_why_put(
+        n: usize,
+        t: usize,
+        rows: *const u64,
+        rows_len: usize,
+        entries: *const u16,
+        entries_len: usize,
+        frame: usize,
+        order: usize,
+        reason: &mut u32,
+        at: &mut usize,
+    ) -> u32;
     pub fn rb_room(
         n: usize,
         t: usize,

@@ -131,6 +131,25 @@ pub fn recover(lower: &mut Lower<'_>) -> (u32, Recovered) {
     (code, recovered)
 }
 
+pub fn why_get(lower: &Lower<'_>, row: RowId, order: usize) -> (u32, u32) {
+    // The frame is always 0.
+    let (mut reason, mut frame) = (0, 0);
+    let code = call!(rb_why_get, lower, as_ptr, row.0, order, &mut reason, &mut frame);
+    (code, reason)
+}
+
+pub fn why_get_at(lower: &Lower<'_>, frame: FrameId, order: usize) -> (u32, u32, FrameId) {
+    let (mut reason, mut at) = (0, FrameId(0));
+    let code = call!(rb_why_get_at, lower, as_ptr, frame.0, order, &mut reason, &mut at.0);
+    (code, reason, at)
+}
+
+pub fn why_put(lower: &Lower<'_>, frame: FrameId, order: usize) -> (u32, u32, FrameId) {
+    let (mut reason, mut at) = (0, FrameId(0));
+    let code = call!(rb_why_put, lower, as_ptr, frame.0, order, &mut reason, &mut at.0);
+    (code, reason, at)
+}
+
 pub fn room(lower: &Lower<'_>, frame: FrameId) -> (u32, [usize; ORDERS]) {
     let mut counts = [0; ORDERS];
     let code = call!(rb_room, lower, as_ptr, frame.0, &mut counts);

@@ -24,6 +24,9 @@
 //! # Ok::<(), Error>(())
 //! ```
 //!
+//! Where a get or a put is refused with 7, [`why_get`](Lower::why_get) and [`why_put`](Lower::why_put) say
+//! why.
+//!
 //! A [`State`] owns its rows and entries, and can be a static. Memory with holes is started with [`blocks`].
 //! The repository's docs/KERNEL.md has more for kernels.
 //!
@@ -60,12 +63,14 @@ mod ffi;
 mod ids;
 mod lower;
 mod state;
+mod why;
 
 pub use blocks::blocks;
 pub use error::{Error, Refusal};
 pub use ids::{FrameId, HugeId, RowId};
 pub use lower::{Fault, Got, Init, Lower, Reason, Recovered, Stats};
 pub use state::State;
+pub use why::Why;
 
 const _: () = assert!(usize::BITS == 64, "the calls are for 64 bits");
 

@@ -3,7 +3,7 @@
 use core::fmt;
 
 use crate::error::{Error, Refusal, check};
-use crate::{FrameId, HUGE_ORDER, HugeId, ORDERS, RowId, ffi};
+use crate::{FrameId, HUGE_ORDER, HugeId, MARK, ORDERS, RowId, Why, ffi};
 
 /// How a [`Lower`] finds its frames.
 #[derive(Clone, Copy, Debug, PartialEq, Eq)]
@@ -319,6 +319,95 @@ impl<'a> Lower<'a> {
             _ => Reason::AbsentEntry,
         };
         Some(Fault { huge, reason })
+    }
+
+    /// Why a [`get`](Lower::get) of the same numbers would be refused with 7, or none where it would be done.
+    /// Nothing is written. It looks through the whole tree, and is for people rather than for each get.
+    ///
+    /// # Errors
+    ///
+    /// 4 to 6 as the get itself; then 8 where its tree is not consistent, absent entries too. Other trees
+    /// don't matter.
+    ///
+    /// ```
+    /// use ravelbeam::{Error, FrameId, HugeId, Init, RowId, State, Why};
+    ///
+    /// let mut state = State::<32, 4>::new();
+    /// let mut lower = state.start(2048, 4, Init::FreeAll)?;
+    /// let log = [5, 700, 1024, 2047].map(FrameId); // one frame in each huge frame
+    /// for frame in log {
+    ///     lower.get(RowId(0), 0, Some(frame))?;
+    /// }
+    /// let refusal = lower.get(RowId(0), 9, None).unwrap_err(); // of a huge frame for the painter
+    /// assert_eq!(refusal.error, Error::Memory);
+    ///
+    /// let why = lower.why_get(RowId(0), 9, None)?.unwrap();
+    /// assert_eq!(why, Why::NoBlock { free: 2044, needed: 512 });
+    /// assert_eq!(why.to_string(), "the tree has 2044 free frames, but no aligned block of 512 (3)");
+    /// for (huge, frame) in log.into_iter().enumerate() {
+    ///     let painted = HugeId(huge).as_frame();
+    ///     assert_eq!(lower.stats_at(painted, 9)?.free_frames, 511);
+    ///     assert_eq!(lower.why_get(RowId(0), 9, Some(painted))?, Some(Why::Held(frame)));
+    /// }
+    /// lower.put(log[1], 0)?;
+    /// assert_eq!(lower.why_get(RowId(0), 9, None)?, None); // it would be done
+    /// # Ok::<(), Error>(())
+    /// ```
+    pub fn why_get(
+        &self,
+        start_row: RowId,
+        order: usize,
+        frame: Option<FrameId>,
+    ) -> Result<Option<Why>, Error> {
+        if let Some(frame) = frame {
+            // No other reason than 0 and 4 is given here.
+            let (code, reason, at) = ffi::why_get_at(self, frame, order);
+            return check(code, (reason != 0).then_some(Why::Held(at)));
+        }
+        let (code, reason) = ffi::why_get(self, start_row, order);
+        check(code, ())?;
+        let (tree, needed) = (start_row.as_frame(), 1 << order);
+        let free = self.stats_at(tree, self.tree_order())?.free_frames;
+        let counts = self.tree_run(tree)?.iter().filter(|entry| **entry != MARK);
+        let most = counts.max().map_or(0, |count| usize::from(*count));
+        // And here none but 0 to 3, so the last arm is that of 3.
+        Ok(match reason {
+            0 => None,
+            1 => Some(Why::TooFew { free, needed }),
+            2 => Some(Why::Spread { free, most, needed }),
+            _ => Some(Why::NoBlock { free, needed }),
+        })
+    }
+
+    /// Why a [`put`](Lower::put) of the same numbers would be refused with 7, or none where it would be done.
+    /// Nothing is written. It looks through the whole tree, and is for people rather than for each put.
+    ///
+    /// # Errors
+    ///
+    /// 4 to 6 as the put itself; then 8 where its tree is not consistent, absent entries too. Other trees
+    /// don't matter.
+    ///
+    /// ```
+    /// use ravelbeam::{Error, FrameId, Init, RowId, State, Why};
+    ///
+    /// let mut state = State::<8, 1>::new();
+    /// let mut lower = state.start(512, 1, Init::FreeAll)?;
+    /// lower.get(RowId(0), 8, None)?;
+    /// assert_eq!(lower.why_put(FrameId(0), 8)?, None); // it would be done
+    /// assert_eq!(lower.why_put(FrameId(0), 9)?, Some(Why::Free(FrameId(256))));
+    /// lower.get(RowId(0), 8, None)?;
+    /// assert_eq!(lower.why_put(FrameId(0), 9)?, Some(Why::HeldSingly(FrameId(0))));
+    /// # Ok::<(), Error>(())
+    /// ```
+    pub fn why_put(&self, frame: FrameId, order: usize) -> Result<Option<Why>, Error> {
+        let (code, reason, at) = ffi::why_put(self, frame, order);
+        check(code, ())?;
+        // No other reason than 0, 5 and 6 is given, so the last arm is that of 6.
+        Ok(match reason {
+            0 => None,
+            5 => Some(Why::Free(at)),
+            _ => Some(Why::HeldSingly(at)),
+        })
     }
 
     /// How many blocks of each order the entries of a frame's tree promise: below order 9 each free count's

@@ -86,6 +86,8 @@ fn blocks_are_refused_with_4_to_6() {
         );
         assert_eq!(refused(lower, |lower| lower.put(FrameId(frame), order)), Err(error));
         assert_eq!(refused(lower, |lower| lower.is_free(FrameId(frame), order)), Err(error));
+        assert_eq!(refused(lower, |lower| lower.why_get(RowId(0), order, Some(FrameId(frame)))), Err(error));
+        assert_eq!(refused(lower, |lower| lower.why_put(FrameId(frame), order)), Err(error));
     }
     for (row, order, error) in [
         (0, 11, Error::Order),
@@ -95,6 +97,7 @@ fn blocks_are_refused_with_4_to_6() {
         (usize::MAX, 0, Error::Range),
     ] {
         assert_eq!(refused(lower, |lower| lower.get(RowId(row), order, None)), probes(error, 0));
+        assert_eq!(refused(lower, |lower| lower.why_get(RowId(row), order, None)), Err(error));
     }
     for frame in [1500, usize::MAX] {
         assert_eq!(refused(lower, |lower| lower.stats_at(FrameId(frame), 0)), Err(Error::Range));

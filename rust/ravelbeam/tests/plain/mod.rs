@@ -39,6 +39,17 @@ impl Held {
         self.count -= 1 << order;
     }
 
+    /// How many are free of `frames` frames from `start` on.
+    pub fn free(&self, start: usize, frames: usize) -> usize {
+        self.flags.iter().skip(start).take(frames).filter(|held| !**held).count()
+    }
+
+    /// The lowest frame of a block that is held, or that is free.
+    pub fn lowest(&self, frame: FrameId, order: usize, held: bool) -> Option<FrameId> {
+        let block = &self.flags[frame.0..][..1 << order];
+        block.iter().position(|flag| *flag == held).map(|place| frame + FrameId(place))
+    }
+
     /// Whether an aligned block is free among `frames` frames from `start` on. The start is aligned.
     pub fn has_room(&self, start: usize, frames: usize, order: usize) -> bool {
         let end = self.flags.len().min(start + frames);
