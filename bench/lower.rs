@@ -125,28 +125,10 @@ impl Load {
     }
 }
 
-/// A state by its rows; each entry counts what is clear.
-fn of_rows(t: usize, row: impl FnMut() -> u64) -> State {
-    let mut state = State::fresh(t, TREES);
-    state.rows.fill_with(row);
-    state.count();
-    state
-}
-
-/// Full but for one frame in each huge frame.
-fn one_free(t: usize, random: &mut Random) -> State {
-    let mut state = of_rows(t, || u64::MAX);
-    for huge in 0..TREES * t {
-        state.rows[HUGE_ROWS * huge + random.below(HUGE_ROWS as u64) as usize] ^= 1 << random.below(64);
-    }
-    state.count();
-    state
-}
-
 /// The crowded tree: gets put straight back, and a run of gets and then its puts, from kept start rows and
 /// from any.
 fn crowded_tree(rust: &Rust, random: &mut Random) {
-    let state = one_free(rust.t, random);
+    let state = State::one_free(rust.t, TREES, random);
     let tree_rows = (HUGE_ROWS * rust.t) as u64;
     for (together, name) in [(1, "get, put"), (RUN, "32 gets, 32 puts")] {
         for (kept, kind) in [(true, "one in 512 free, rows kept"), (false, "one in 512 free, any rows")] {
@@ -162,7 +144,7 @@ fn crowded_tree(rust: &Rust, random: &mut Random) {
 
 /// Puts of blocks of which no two share frames, and questions whether blocks are free.
 fn blocks(rust: &Rust, half: &State, random: &mut Random) {
-    let singly = of_rows(rust.t, || u64::MAX);
+    let singly = State::of_rows(rust.t, TREES, || u64::MAX);
     let mut whole = State::fresh(rust.t, TREES);
     whole.entries.fill(MARK);
     for (order, kind, state) in [
@@ -224,7 +206,7 @@ fn main() {
         let rust = Rust::load(&path);
         let t = rust.t;
         let fresh = State::fresh(t, TREES);
-        let crowded = of_rows(t, || crowded(&mut random));
+        let crowded = State::of_rows(t, TREES, || crowded(&mut random));
         let half = State::half(t, TREES, &mut random);
         for (kind, state) in [("fresh", &fresh), ("half full", &half), ("crowded", &crowded)] {
             for order in orders(t) {

@@ -1,5 +1,5 @@
-//! Prints the tables of what bench.rs, lower.rs and staff.rs measured, and draws the ratios as a picture. Run
-//! by bench/run, as: report PICTURE TITLE ROWS TITLE ROWS..
+//! Prints the tables of what bench.rs, lower.rs, why.rs and staff.rs measured, and draws the ratios as a picture.
+//! Run by bench/run, as: report PICTURE TITLE ROWS TITLE ROWS..
 //!
 //! A file of rows has those of several processes; each side's figure is its least.
 

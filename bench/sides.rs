@@ -58,6 +58,9 @@ ours! {
     recover = rb_recover(mut, entries_changed: &mut usize, bitfields_changed: &mut usize);
     room = rb_room(const, frame: usize, counts: &mut [usize; 19]);
     tree_run = rb_tree_run(const, frame: usize, offset: &mut usize, length: &mut usize);
+    why_get = rb_why_get(const, row: usize, order: usize, reason: &mut u32, frame: &mut usize);
+    why_get_at = rb_why_get_at(const, frame: usize, order: usize, reason: &mut u32, at: &mut usize);
+    why_put = rb_why_put(const, frame: usize, order: usize, reason: &mut u32, at: &mut usize);
 }
 
 pub struct Ours {

@@ -10,6 +10,8 @@ mod rows;
 // Nor all of its calls.
 #[allow(dead_code)]
 mod sides;
+// Nor all of its states.
+#[allow(dead_code)]
 mod state;
 mod turns;
 

@@ -42,6 +42,24 @@ impl State {
         }
     }
 
+    /// By its rows; each entry counts what is clear.
+    pub fn of_rows(t: usize, trees: usize, row: impl FnMut() -> u64) -> State {
+        let mut state = State::fresh(t, trees);
+        state.rows.fill_with(row);
+        state.count();
+        state
+    }
+
+    /// Full but for one frame in each huge frame.
+    pub fn one_free(t: usize, trees: usize, random: &mut Random) -> State {
+        let mut state = State::of_rows(t, trees, || u64::MAX);
+        for rows in state.rows.chunks_mut(HUGE_ROWS) {
+            rows[random.below(HUGE_ROWS as u64) as usize] ^= 1 << random.below(64);
+        }
+        state.count();
+        state
+    }
+
     /// Half full: of eight trees one is free and one held, and six are split.
     pub fn half(t: usize, trees: usize, random: &mut Random) -> State {
         let mut state = State::fresh(t, trees);

@@ -4,7 +4,7 @@
 #include "../shared/lent.h"
 
 /* The numbers go on from those of the lower level's calls, so that a program can have both. */
-enum { SEARCH = 13, SET, TOGGLE, IS_ZERO, FIRST_ZEROS, SET_FIRST_ZEROS, FILL, COUNT_ZEROS };
+enum { SEARCH = 16, SET, TOGGLE, IS_ZERO, FIRST_ZEROS, SET_FIRST_ZEROS, FILL, COUNT_ZEROS };
 
 /* Makes a call that is lent these rows: its code, and in count how many numbers it was lent. Its own numbers are the
  * count of its rows; place and order, start row and order, start and end, or of a search the row and the order; and a

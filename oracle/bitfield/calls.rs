@@ -14,7 +14,7 @@ use crate::shared::room::{Outcome, Room};
 /// What a call is; the numbers are calls.h's.
 #[derive(Clone, Copy, PartialEq, Debug)]
 pub enum What {
-    Search = 13,
+    Search = 16,
     Set,
     Toggle,
     IsZero,

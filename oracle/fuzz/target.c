@@ -1,8 +1,8 @@
 /* A fuzz target for libFuzzer: bytes are read as N, T, a state and a list of calls. Each call is made through
- * libravelbeam.a, the archive that users link, and held to what document 01 promises of every call, and to the Rust
+ * libravelbeam.a, the archive that users link, and held to what the documents promise of every call, and to the Rust
  * wherever the Rust has an answer. Run by oracle/fuzz/run.
  *
- * It has no model of document 01, as the comparison has in oracle/model: its checks are relations between calls and
+ * It has no model of the documents, as the comparison has in oracle/model: its checks are relations between calls and
  * states, such as that a put undoes its get. Only the refusals 1 to 6 are worked out.
  *
  * The archive is machine code, of which libFuzzer sees nothing. So each call, with its code, its order and more, has
@@ -16,6 +16,8 @@
 #include "rust.h"
 
 enum { MOST = 1048576, ROWS = MOST / 64, ENTRIES = MOST / 512, MARK = 65535, GUARD = 4, WORK = 1 << 16 };
+/* The numbers of the calls end before this. */
+enum { CALLS = WHY_PUT + 1 };
 
 /* Rows and entries, with some on either side that no call needs. */
 struct memory {
@@ -41,12 +43,12 @@ static int borrows;
 
 /* One for each call, code, order and a few things more; and one for each tree size, call and code. */
 __attribute__((section("__libfuzzer_extra_counters"))) static struct {
-    uint8_t orders[13][9][20][8], trees[10][13][9];
+    uint8_t orders[CALLS][9][20][8], trees[10][CALLS][9];
 } counters;
 
-/* For `oracle/fuzz/run summary`: how often each call had each code, how many calls the Rust answered too, and how many
- * runs gave back what they had borrowed. */
-static word made[13][9], answered, returned;
+/* For `oracle/fuzz/run summary`: how often each call had each code, how many calls the Rust answered too, how many
+ * runs gave back what they had borrowed, and for which reasons requests would be turned down. */
+static word made[CALLS][9], answered, returned, reasons[CALLS][7];
 
 /* ---- Failing. */
 
@@ -111,10 +113,17 @@ static word entries_of(word frames, word huge)
     return huge * ((frames + 512 * huge - 1) / (512 * huge));
 }
 
+/* The call whose refusals a call has: of one that says why, the request itself. */
+static word request_of(word what)
+{
+    return what == WHY_GET ? GET : what == WHY_GET_AT ? GET_AT : what == WHY_PUT ? PUT : what;
+}
+
 static number refusal(const struct call *it)
 {
-    int block = it->what == GET_AT || it->what == PUT || it->what == IS_FREE;
-    int frame = it->what == STATS_AT || it->what == TREE_ROOM || it->what == TREE_RUN;
+    word what = request_of(it->what);
+    int block = what == GET_AT || what == PUT || what == IS_FREE;
+    int frame = what == STATS_AT || what == TREE_ROOM || what == TREE_RUN;
 
     if (it->n == 0 || it->n > MOST)
         return 1;
@@ -122,10 +131,10 @@ static number refusal(const struct call *it)
         return 2;
     if (it->rows_len < rows_of(it->n) || it->entries_len < entries_of(it->n, it->t))
         return 3;
-    if ((block || it->what == GET) && it->order > top_order(it->t))
+    if ((block || what == GET) && it->order > top_order(it->t))
         return 4;
     if ((block && (it->at > it->n || it->at + (1ull << it->order) > it->n)) ||
-        (it->what == GET && it->at >= (it->n + 63) / 64) || (frame && it->at >= it->n))
+        (what == GET && it->at >= (it->n + 63) / 64) || (frame && it->at >= it->n))
         return 5;
     return block && it->at % (1ull << it->order) != 0 ? 6 : 0;
 }
@@ -317,6 +326,93 @@ static void check_recovered(const size *changed)
     demand(changed[0] == entries && changed[1] == bitfields, "a recover miscounts what it changed");
 }
 
+/* The tree of a call's frame or start row. */
+static word tree_of(const struct call *it)
+{
+    return (request_of(it->what) == GET ? 64 * it->at : it->at) / (512 * it->t);
+}
+
+/* Whether the tree that a call is about is consistent: with it among trees that are all free, an audit is clean. */
+static int tree_clean(const struct call *it)
+{
+    word rows = rows_of(it->n), entry_at = tree_of(it) * it->t, row_at = 8 * entry_at;
+    word rows_here = rows - row_at < 8 * it->t ? rows - row_at : 8 * it->t, count;
+    struct call other = *it;
+    struct lent lent;
+
+    other.what = FREE_ALL, other.rows = trial.rows + GUARD, other.entries = trial.entries + GUARD;
+    other.rows_len = rows, other.entries_len = entries_of(it->n, it->t);
+    demand(make(&other, &lent, &count) == 0, "a start was refused");
+    memcpy(other.rows + row_at, it->rows + row_at, rows_here * sizeof(word));
+    memcpy(other.entries + entry_at, it->entries + entry_at, it->t * sizeof(entry));
+    other.what = AUDIT;
+    demand(make(&other, &lent, &count) == 0, "an audit was refused");
+    return lent.numbers[1] == 0;
+}
+
+/* Whether each frame from one up to another is held, or each is not. */
+static int all_between(const struct memory *memory, word frame, word end, int yes)
+{
+    while (frame < end) {
+        word order = 0;
+
+        while (frame % (2ull << order) == 0 && frame + (2ull << order) <= end)
+            order++;
+        if (!all_held(memory, frame, order, yes))
+            return 0;
+        frame += 1ull << order;
+    }
+    return 1;
+}
+
+/* The reason of a get that is turned down in a consistent tree, by the free counts of its huge frames. */
+static word reason_by_counts(const struct call *it)
+{
+    word sum = 0, most = 0;
+
+    for (word at = tree_of(it) * it->t; at < (tree_of(it) + 1) * it->t; at++) {
+        entry count = it->entries[at] == MARK ? 0 : it->entries[at];
+        sum += count;
+        most = count > most ? count : most;
+    }
+    return sum >> it->order == 0 ? 1 : it->order < 9 && most >> it->order == 0 ? 2 : 3;
+}
+
+/* What the reason for which a get or a put would be turned down promises. That there is one exactly if it is turned
+ * down, check sees when the get or put is made. */
+static void check_why(const struct call *it, word reason, word frame)
+{
+    word end = it->at + (1ull << it->order);
+
+    switch (reason) {
+    case 0:
+        break;
+    case 1:
+    case 2:
+    case 3:
+        demand(it->what == WHY_GET && reason == reason_by_counts(it), "another reason to turn a get down");
+        break;
+    case 4:
+    case 5:
+        demand(it->what == (reason == 4 ? WHY_GET_AT : WHY_PUT), "a reason of another request");
+        demand(frame >= it->at && frame < end, "a frame that is not of the block");
+        demand(all_held(&now, frame, 0, reason == 4), "a frame for no reason");
+        demand(all_between(&now, it->at, frame, reason == 5), "not the lowest frame");
+        return;
+    case 6:
+        demand(it->what == WHY_PUT && it->order >= 9, "a reason of another request");
+        demand(frame >= it->at && frame < end && frame % 512 == 0, "no huge frame of the block");
+        demand(all_held(&now, it->at, it->order, 1), "a free frame in a block that is all held");
+        demand(entry_of(&now, frame) != MARK, "a huge frame that is held whole");
+        for (word at = it->at; at < frame; at += 512)
+            demand(entry_of(&now, at) == MARK, "not the lowest huge frame");
+        return;
+    default:
+        demand(0, "no such reason");
+    }
+    demand(frame == 0, "a frame with a reason that has none");
+}
+
 /* What each call that was done promises beside its answer. Most of it is on the run's own N and T. */
 static void check_done(const struct call *it, const size *numbers, int own, int was_clean)
 {
@@ -355,6 +451,11 @@ static void check_done(const struct call *it, const size *numbers, int own, int 
         break;
     case TREE_RUN:
         demand(numbers[0] == it->at / (512 * it->t) * it->t && numbers[1] == it->t, "another tree's run");
+        break;
+    case WHY_GET:
+    case WHY_GET_AT:
+    case WHY_PUT:
+        check_why(it, numbers[0], numbers[1]);
     }
 }
 
@@ -365,7 +466,7 @@ static void check_rust(const struct call *it, number code, const size *numbers, 
     int absent = (it->n + 511) / 512 % it->t != 0;
     size theirs[NUMBERS];
 
-    if (it->what == AUDIT || it->what == TREE_ROOM || it->what == TREE_RUN || (it->what == RECOVER && absent))
+    if (it->what == AUDIT || it->what >= TREE_ROOM || (it->what == RECOVER && absent))
         return;
     memcpy(theirs, numbers, sizeof theirs);
     copy(&trial, &before);
@@ -399,17 +500,27 @@ static const uint16_t codes[] = {
     [FREE_ALL] = 0x00f, [RESERVE_ALL] = 0x00f, [GET] = 0x1bf,       [GET_AT] = 0x1ff,
     [PUT] = 0x1ff,      [IS_FREE] = 0x07f,     [STATS] = 0x00f,     [STATS_AT] = 0x02f,
     [AUDIT] = 0x00f,    [RECOVER] = 0x10f,     [TREE_ROOM] = 0x02f, [TREE_RUN] = 0x02f,
+    [WHY_GET] = 0x13f,  [WHY_GET_AT] = 0x17f,  [WHY_PUT] = 0x17f,
 };
 
-/* Makes the call on the state, checks it, and hands back its code. */
-static number check(struct call it)
+/* Makes the call on the state, checks it, and hands back its code; in told, if that is lent, the first of its numbers.
+ * Before a get or a put it is asked why that would be turned down. */
+static number check_told(struct call it, word *told)
 {
     int own = it.n == n && it.t == t, get = it.what == GET || it.what == GET_AT, was_clean = clean;
+    int request = get || it.what == PUT, why = it.what >= WHY_GET;
     int writes = it.what <= PUT || it.what == RECOVER;
     struct lent lent;
     const size *numbers = lent.numbers;
-    word count;
+    word count, reason = 0;
+    number why_code = 0;
 
+    if (request) {
+        struct call question = it;
+
+        question.what = it.what - GET + WHY_GET;
+        why_code = check_told(question, &reason);
+    }
     asked = it;
     copy(&before, &now);
     number code = make(&it, &lent, &count), early = refusal(&it);
@@ -427,6 +538,12 @@ static number check(struct call it)
         check_probes(&it, code, numbers[1]);
     if (early == 0 && code != 8)
         check_rust(&it, code, numbers, count);
+    if (request && why_code != 8) {
+        demand(why_code == early, "another refusal than that of the request itself");
+        demand(early != 0 || code == (reason == 0 ? 0 : 7), "turned down for no reason, or done in spite of one");
+    }
+    if (why && early == 0)
+        demand((code == 8) == !tree_clean(&it), "8 and damage of the tree differ");
 
     if (code == 0 && writes)
         clean = audit();
@@ -442,11 +559,21 @@ static number check(struct call it)
             begin();
     }
 
-    word more = count == 0 ? 0 : it.what == AUDIT ? numbers[1] : (numbers[0] > 0) + 2 * (get && numbers[1] > 1);
-    counters.orders[it.what][code][it.order < 20 ? it.order : 19][more + 4 * (it.what != AUDIT && clean)]++;
+    int reasoned = why || it.what == AUDIT;
+    word more = count == 0 ? 0 : reasoned ? numbers[!why] : (numbers[0] > 0) + 2 * (get && numbers[1] > 1);
+    counters.orders[it.what][code][it.order < 20 ? it.order : 19][more + 4 * (!reasoned && clean)]++;
     counters.trees[__builtin_ctzll(t)][it.what][code]++;
     made[it.what][code]++;
+    if (why && code == 0)
+        reasons[it.what][numbers[0]]++;
+    if (told)
+        *told = numbers[0];
     return code;
+}
+
+static number check(struct call it)
+{
+    return check_told(it, 0);
 }
 
 /* Gives back all that is in the ledger, in the largest blocks that are accepted: then all is as at first. */
@@ -641,16 +768,23 @@ static struct call odd(struct call it)
 
 static void summary(void)
 {
-    static const char *const names[] = { "",      "free_all", "reserve_all", "get",     "get_at", "put",     "is_free",
-                                         "stats", "stats_at", "audit",       "recover", "room",   "tree_run" };
+    static const char *const names[] = { "",        "free_all", "reserve_all", "get",     "get_at",
+                                         "put",     "is_free",  "stats",       "stats_at", "audit",
+                                         "recover", "room",     "tree_run",    "why_get", "why_get_at",
+                                         "why_put" };
     word calls = 0;
 
-    for (word what = 1; what <= TREE_RUN; what++) {
+    for (word what = 1; what < CALLS; what++) {
         printf("%-11s", names[what]);
         for (word code = 0; code < 9; code++) {
             if (codes[what] >> code & 1)
                 printf("  %lu: %lu", code, made[what][code]);
             calls += made[what][code];
+        }
+        printf("%s", what >= WHY_GET ? "; reasons" : "");
+        for (word reason = 0; reason < 7; reason++) {
+            if (reasons[what][reason] > 0)
+                printf("  %lu: %lu", reason, reasons[what][reason]);
         }
         printf("\n");
     }

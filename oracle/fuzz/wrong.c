@@ -11,7 +11,11 @@ enum {
     REFUSAL_WRITES,
     LAST_OF_A_GROUP,
     ROOM_AT_9,
-    OTHER_TREE
+    OTHER_TREE,
+    SPREAD_AT_9,
+    HIGHEST_HELD,
+    WHOLE_STATE,
+    SINGLY_FIRST
 };
 
 /* What each is before, and what stands before it, are as the header has them. */
@@ -21,6 +25,9 @@ WRAPPED(rb_put);
 WRAPPED(rb_is_free);
 WRAPPED(rb_recover);
 WRAPPED(rb_room);
+WRAPPED(rb_why_get);
+WRAPPED(rb_why_get_at);
+WRAPPED(rb_why_put);
 
 /* The frame after the one that was taken; it writes though its order is too high; or where the tree has no block it
  * goes on to the next. */
@@ -81,5 +88,51 @@ number __wrap_rb_room(size n, size t, const word *rows, size rows_len, const ent
 
     if (WRONG == ROOM_AT_9 && t > 63)
         counts[9] = 0;
+    return code;
+}
+
+/* "No single huge frame has that many" is said at order 9 too. */
+number __wrap_rb_why_get(size n, size t, const word *rows, size rows_len, const entry *entries, size entries_len,
+                         size row, size order, number *reason, size *frame)
+{
+    number code = __real_rb_why_get(n, t, rows, rows_len, entries, entries_len, row, order, reason, frame);
+
+    if (WRONG == SPREAD_AT_9 && order == 9 && *reason == 3)
+        *reason = 2;
+    return code;
+}
+
+/* The highest held frame of the block. */
+number __wrap_rb_why_get_at(size n, size t, const word *rows, size rows_len, const entry *entries, size entries_len,
+                            size frame, size order, number *reason, size *at)
+{
+    number code = __real_rb_why_get_at(n, t, rows, rows_len, entries, entries_len, frame, order, reason, at);
+
+    if (WRONG == HIGHEST_HELD && *reason == 4) {
+        *at = frame + ((size)1 << order) - 1;
+        while (entries[*at / 512] != 65535 && (rows[*at / 64] >> *at % 64 & 1) == 0)
+            --*at;
+    }
+    return code;
+}
+
+/* Damage of another tree is refused too; or that a huge frame is not held whole goes before that a frame is free. */
+number __wrap_rb_why_put(size n, size t, const word *rows, size rows_len, const entry *entries, size entries_len,
+                         size frame, size order, number *reason, size *at)
+{
+    number code = __real_rb_why_put(n, t, rows, rows_len, entries, entries_len, frame, order, reason, at), fault = 0;
+    size huge;
+
+    if (WRONG == WHOLE_STATE && code == 0) {
+        rb_audit(n, t, rows, rows_len, entries, entries_len, &huge, &fault);
+        if (fault != 0) {
+            *reason = 0, *at = 0;
+            return 8;
+        }
+    }
+    if (WRONG == SINGLY_FIRST && *reason == 5 && order > 9) {
+        *reason = 6;
+        *at = *at / 512 * 512;
+    }
     return code;
 }

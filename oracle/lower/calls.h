@@ -3,10 +3,26 @@
 
 #include "../shared/lent.h"
 
-enum { FREE_ALL = 1, RESERVE_ALL, GET, GET_AT, PUT, IS_FREE, STATS, STATS_AT, AUDIT, RECOVER, TREE_ROOM, TREE_RUN };
+enum {
+    FREE_ALL = 1,
+    RESERVE_ALL,
+    GET,
+    GET_AT,
+    PUT,
+    IS_FREE,
+    STATS,
+    STATS_AT,
+    AUDIT,
+    RECOVER,
+    TREE_ROOM,
+    TREE_RUN,
+    WHY_GET,
+    WHY_GET_AT,
+    WHY_PUT
+};
 
-/* A call, and the rows and entries it is lent. What it does not take is 0; at is the start row of a get, else the
- * frame. */
+/* A call, and the rows and entries it is lent. What it does not take is 0; at is the start row of a get or of why one
+ * is turned down, else the frame. */
 struct call {
     word what, n, t, rows_len, entries_len, at, order;
     word *rows;
@@ -59,7 +75,17 @@ static number make(const struct call *it, struct lent *lent, word *count)
     case TREE_ROOM:
         *count = NUMBERS;
         return rb_room(n, t, rows, rows_len, entries, entries_len, at, numbers);
-    default:
+    case TREE_RUN:
         return rb_tree_run(n, t, rows, rows_len, entries, entries_len, at, &numbers[0], &numbers[1]);
+    case WHY_GET:
+        code = rb_why_get(n, t, rows, rows_len, entries, entries_len, at, order, &lent->small, &numbers[1]);
+        break;
+    case WHY_GET_AT:
+        code = rb_why_get_at(n, t, rows, rows_len, entries, entries_len, at, order, &lent->small, &numbers[1]);
+        break;
+    default:
+        code = rb_why_put(n, t, rows, rows_len, entries, entries_len, at, order, &lent->small, &numbers[1]);
     }
+    numbers[0] = lent->small;
+    return code;
 }

@@ -24,9 +24,12 @@ pub enum What {
     Recover,
     TreeRoom,
     TreeRun,
+    WhyGet,
+    WhyGetAt,
+    WhyPut,
 }
 
-/// The kernel's own calls and its staff's.
+/// The kernel's own calls and its staff's, but for those that say why.
 pub const ALL: [What; 12] = [
     What::FreeAll,
     What::ReserveAll,
@@ -41,14 +44,16 @@ pub const ALL: [What; 12] = [
     What::TreeRoom,
     What::TreeRun,
 ];
-/// Their numbers end before this.
-pub const CALLS: usize = 1 + ALL.len();
+/// Those that say why a get, a get with a frame or a put would be turned down.
+pub const WHY: [What; 3] = [What::WhyGet, What::WhyGetAt, What::WhyPut];
+/// The numbers of all of them end before this.
+pub const CALLS: usize = 1 + ALL.len() + WHY.len();
 /// Its staff's alone.
 pub const STAFF: [What; 6] =
     [What::Stats, What::StatsAt, What::Audit, What::Recover, What::TreeRoom, What::TreeRun];
 
-/// A call that lends so many rows and entries. `at` is the start row of a get, else the frame. What a call
-/// does not take is 0.
+/// A call that lends so many rows and entries. `at` is the start row of a get or of why one is turned down, else
+/// the frame. What a call does not take is 0.
 #[derive(Clone, Copy)]
 pub struct Call {
     pub what: What,
@@ -75,6 +80,17 @@ impl Call {
             _ => (self.at, self.order),
         };
         Call { what, at, order, ..self }
+    }
+
+    /// The call that says why this one would be turned down.
+    pub fn why(self) -> Option<Call> {
+        let what = match self.what {
+            What::Get => What::WhyGet,
+            What::GetAt => What::WhyGetAt,
+            What::Put => What::WhyPut,
+            _ => return None,
+        };
+        Some(Call { what, ..self })
     }
 
     /// The call with these numbers of frames and of huge frames in a tree.
@@ -106,6 +122,9 @@ impl fmt::Display for Call {
             What::Recover => write!(f, "recover({lent})"),
             What::TreeRoom => write!(f, "room({lent}, frame {at})"),
             What::TreeRun => write!(f, "tree_run({lent}, frame {at})"),
+            What::WhyGet => write!(f, "why_get({lent}, row {at}, order {order})"),
+            What::WhyGetAt => write!(f, "why_get_at({lent}, frame {at}, order {order})"),
+            What::WhyPut => write!(f, "why_put({lent}, frame {at}, order {order})"),
         }
     }
 }
@@ -116,13 +135,14 @@ fn in_domain(call: &Call, model: &Outcome) -> bool {
     (model.code == 0 || model.code == 7)
         && match call.what {
             What::Audit | What::TreeRoom | What::TreeRun => false,
+            What::WhyGet | What::WhyGetAt | What::WhyPut => false,
             What::Recover => call.shape.needed().1 == call.shape.present(),
             _ => true,
         }
 }
 
 /// The numbers that a call is lent: frame and probes; 1 for yes; the three statistics; huge frame and reason;
-/// entries and bitfields; nineteen counts; offset and length.
+/// entries and bitfields; nineteen counts; offset and length; reason and frame.
 impl comparison::Call for Call {
     type Builds = Builds;
     type Tally = Tally;
@@ -156,6 +176,9 @@ impl comparison::Call for Call {
             What::Recover => list(lent.recover()),
             What::TreeRoom => lent.tree_room(at),
             What::TreeRun => list(lent.tree_run(at)),
+            What::WhyGet => list(lent.why_get(at, order)),
+            What::WhyGetAt => list(lent.why_get_at(at, order)),
+            What::WhyPut => list(lent.why_put(at, order)),
         };
         let changes = before.changes(&after);
         if what == What::Recover {
@@ -189,7 +212,7 @@ impl comparison::Call for Call {
                 What::Stats => (rust.stats)(n, rows, entries, &mut stats),
                 What::StatsAt => (rust.stats_at)(n, rows, entries, at, order, &mut stats),
                 What::Recover => (rust.recover)(n, rows, entries),
-                What::Audit | What::TreeRoom | What::TreeRun => unreachable!("not in the domain"),
+                _ => unreachable!("not in the domain"),
             }
         };
         let changes = before.changes(&after);

@@ -4,7 +4,7 @@ use crate::lower::calls::{Call, What};
 use crate::model::numbers::Shape;
 use crate::shared::room::Outcome;
 
-/// The line of a call; room and tree run have none.
+/// The line of a call; room, tree run and those that say why have none.
 pub fn line(call: &Call) -> Option<String> {
     let Call { what, shape: Shape { n, t, .. }, at, order, .. } = call;
     let letter = match what {
@@ -13,7 +13,7 @@ pub fn line(call: &Call) -> Option<String> {
         What::Stats => return Some("S".to_string()),
         What::Audit => return Some("A".to_string()),
         What::Recover => return Some("R".to_string()),
-        What::TreeRoom | What::TreeRun => return None,
+        What::TreeRoom | What::TreeRun | What::WhyGet | What::WhyGetAt | What::WhyPut => return None,
         What::Get => 'G',
         What::GetAt => 'P',
         What::Put => 'F',

@@ -156,6 +156,38 @@ impl Run {
     }
 }
 
+/// Gets, gets with a frame and puts of each order: from a row or of a block by chance, and of the first and last
+/// block.
+pub fn requests(shape: Shape, random: &mut Random) -> Vec<Call> {
+    let plain = Call::lending(shape, 0, 0);
+    let mut calls = Vec::new();
+    for order in 0..shape.top_order() + 1 {
+        let blocks = shape.n >> order;
+        let at = random.below(shape.n) / 64;
+        calls.push(Call { what: What::Get, at, order, ..plain });
+        for what in [What::GetAt, What::Put] {
+            let some = random.below(blocks.max(1));
+            let mut places = vec![some, random.one_of(&[0, blocks.saturating_sub(1)])];
+            places.dedup();
+            calls.extend(places.into_iter().map(|place| Call { what, at: place << order, order, ..plain }));
+        }
+    }
+    calls
+}
+
+/// A get from a frame's row, and a get and a put of its block, at an order below that of a huge frame and at the top
+/// order.
+pub fn about(shape: Shape, frame: u64, random: &mut Random) -> Vec<Call> {
+    let plain = Call::lending(shape, 0, 0);
+    let orders = [random.below(shape.variant.huge_order), shape.top_order()];
+    let of = |order: u64| {
+        let block = frame >> order << order;
+        let at = [(What::Get, frame / 64), (What::GetAt, block), (What::Put, block)];
+        at.map(|(what, at)| Call { what, at, order, ..plain })
+    };
+    orders.into_iter().flat_map(of).collect()
+}
+
 /// The staff's calls about one huge frame, or where that is absent about its tree.
 pub fn staff(shape: Shape, huge: u64, random: &mut Random) -> Vec<Call> {
     let at = frame_of(shape, huge, random);
@@ -167,7 +199,7 @@ pub fn staff(shape: Shape, huge: u64, random: &mut Random) -> Vec<Call> {
 }
 
 /// A frame of a huge frame, or the last one below N.
-fn frame_of(shape: Shape, huge: u64, random: &mut Random) -> u64 {
+pub fn frame_of(shape: Shape, huge: u64, random: &mut Random) -> u64 {
     let frames = shape.variant.huge_frames();
     (frames * huge + random.below(frames)).min(shape.n - 1)
 }

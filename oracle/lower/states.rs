@@ -2,7 +2,7 @@
 
 use std::iter::repeat_with;
 
-use crate::model::blocks::{hold, set_all, zeros};
+use crate::model::blocks::{held, hold, set_all, zeros};
 use crate::model::numbers::{MARK, MOST, Shape, Variant};
 use crate::shared::random::Random;
 use crate::shared::room::Room;
@@ -53,21 +53,35 @@ fn one_block(variant: Variant, random: &mut Random) -> Vec<u64> {
     rows
 }
 
-/// A consistent state, fresh, half full, crowded or full.
+/// The rows of a huge frame with so many clear bits, anywhere.
+fn scattered(variant: Variant, clear: u64, random: &mut Random) -> Vec<u64> {
+    let mut rows = rows_by(variant, || u64::MAX);
+    let mut left: Vec<u64> = (0..variant.huge_frames()).collect();
+    for _ in 0..clear {
+        let place = left.swap_remove(random.below(left.len() as u64) as usize);
+        hold(&mut rows, place, false);
+    }
+    rows
+}
+
+/// A consistent state, fresh, half full, crowded, full, or with fewer free frames in each huge frame than some
+/// order wants.
 pub fn consistent(shape: Shape, random: &mut Random) -> Room {
     let variant = shape.variant;
     let (need_rows, need_entries) = shape.needed();
     let mut room = Room::new((need_rows, need_entries), random);
     let (rows, entries) = room.lent(need_rows, need_entries);
     entries.fill(0);
-    let fullness = random.below(4);
+    let fullness = random.below(5);
+    let wanted = 1 << random.below(variant.huge_order);
     for (huge, rows) in rows.chunks_mut(variant.huge_rows() as usize).enumerate() {
-        // 0 free, 1 held whole, 2 all bits set, 3 mixed, 4 one block free.
+        // 0 free, 1 held whole, 2 all bits set, 3 mixed, 4 one block free, 5 fewer free frames than wanted.
         let kind = match fullness {
             0 => 0,
             1 => random.one_of(&[0, 1, 3, 3, 3]),
             2 => random.one_of(&[1, 2, 4, 4]),
-            _ => random.one_of(&[1, 2]),
+            3 => random.one_of(&[1, 2]),
+            _ => random.one_of(&[1, 2, 5, 5, 5, 5]),
         };
         let past = shape.n.saturating_sub(variant.huge_frames() * huge as u64)..variant.huge_frames();
         match kind {
@@ -79,12 +93,63 @@ pub fn consistent(shape: Shape, random: &mut Random) -> Room {
             0 => rows.fill(0),
             1 | 2 => rows.fill(u64::MAX),
             3 => rows.copy_from_slice(&mixed(variant, random)),
-            _ => rows.copy_from_slice(&one_block(variant, random)),
+            4 => rows.copy_from_slice(&one_block(variant, random)),
+            _ => {
+                let clear = random.below(wanted);
+                rows.copy_from_slice(&scattered(variant, clear, random));
+            }
         }
         past.for_each(|bit| hold(rows, bit, true));
         entries[huge] = zeros(rows) as u16;
     }
     room
+}
+
+/// A consistent state with these frames free. A huge frame that has none is held whole where that is said of it,
+/// else singly.
+fn by_frames(
+    shape: Shape,
+    random: &mut Random,
+    free: impl Fn(u64) -> bool,
+    whole: impl Fn(u64) -> bool,
+) -> Room {
+    let (variant, (need_rows, need_entries)) = (shape.variant, shape.needed());
+    let mut room = Room::new((need_rows, need_entries), random);
+    let (rows, entries) = room.lent(need_rows, need_entries);
+    entries.fill(0);
+    (0..64 * need_rows).for_each(|frame| hold(rows, frame, frame >= shape.n || !free(frame)));
+    for (huge, rows) in rows.chunks_mut(variant.huge_rows() as usize).enumerate() {
+        entries[huge] = zeros(rows) as u16;
+        if entries[huge] == 0 && (huge as u64) < shape.whole() && whole(huge as u64) {
+            rows.fill(0);
+            entries[huge] = MARK;
+        }
+    }
+    room
+}
+
+/// Consistent states that turn gets and puts of each order down for each reason: every other block of an order is
+/// held, whole or singly; each huge frame has one free frame too few for an order below its own; all is held, here
+/// whole and there singly; and all but one frame near the end of each tree is free, or held.
+pub fn turning_down(shape: Shape, random: &mut Random) -> Vec<Room> {
+    let (variant, tree) = (shape.variant, shape.tree_frames());
+    let mut rooms = Vec::new();
+    for order in 0..shape.top_order() + 1 {
+        let offset = random.below(2);
+        let singly = random.below(4);
+        let free = |frame: u64| (frame >> order) % 2 == offset;
+        rooms.push(by_frames(shape, random, free, |huge| huge % 4 != singly));
+    }
+    for order in 1..variant.huge_order {
+        let few = scattered(variant, (1 << order) - 1, random);
+        rooms.push(by_frames(shape, random, |frame| !held(&few, frame % variant.huge_frames()), |_| true));
+    }
+    let single = random.below(shape.t);
+    rooms.push(by_frames(shape, random, |_| false, |huge| huge % shape.t != single));
+    let place = tree - 1 - random.below(variant.huge_frames());
+    rooms.push(by_frames(shape, random, |frame| frame % tree != place, |_| true));
+    rooms.push(by_frames(shape, random, |frame| frame % tree == place, |_| true));
+    rooms
 }
 
 /// Counts that no huge frame has.

@@ -1,7 +1,7 @@
 //! What the comparison of the lower level's calls came by: how often each was answered with each code, and in what
 //! way.
 
-use crate::lower::calls::{ALL, CALLS, Call, STAFF, What};
+use crate::lower::calls::{ALL, CALLS, Call, STAFF, WHY, What};
 use crate::model::numbers::{MOST, TREES, Variant};
 use crate::shared::comparison;
 use crate::shared::demand::demand;
@@ -27,7 +27,8 @@ pub struct Tally {
 /// The way in which a call is answered: `is_free` no or yes; `stats` without or with a free tree; `stats_at`
 /// of a frame not free or free, a huge frame not free or free, a tree not free or free, or nothing; the
 /// reason of an audit; `recover` of nothing, entries, bitfields or both, or the reason that it was refused
-/// for; room without or with a free tree; tree run of the first tree or another. All else is 0.
+/// for; room without or with a free tree; tree run of the first tree or another; the reason for which a get or a
+/// put would be turned down. All else is 0.
 fn way(call: &Call, before: &mut Room, answer: &Outcome) -> usize {
     let Outcome { code, numbers, .. } = answer;
     let above_0 = |number: usize| (numbers[number] > 0) as usize;
@@ -45,6 +46,7 @@ fn way(call: &Call, before: &mut Room, answer: &Outcome) -> usize {
         What::Audit => numbers[1] as usize,
         What::Recover => above_0(0) + 2 * above_0(1),
         What::TreeRoom => above_0(call.shape.top_order() as usize),
+        What::WhyGet | What::WhyGetAt | What::WhyPut => numbers[0] as usize,
         _ => 0,
     }
 }
@@ -75,16 +77,17 @@ impl Tally {
         self.variant.highest_order() as usize + 1
     }
 
-    /// All calls; the staff's among them; those that the Rust answered too; and those refused with 1 to 6 or
-    /// 8.
-    pub fn figures(&self) -> [u64; 4] {
+    /// All calls; the staff's among them; those that say why; those that the Rust answered too; and those refused
+    /// with 1 to 6 or 8.
+    pub fn figures(&self) -> [u64; 5] {
         let codes = |calls: &[What]| -> [u64; 9] {
             let ways = calls.iter().flat_map(|what| self.orders[*what as usize].as_flattened());
             ways.fold([0; 9], |sum, codes| std::array::from_fn(|code| sum[code] + codes[code]))
         };
-        let all = codes(&ALL);
+        let all = codes(&[&ALL[..], &WHY].concat());
         let calls = all.iter().sum();
-        [calls, codes(&STAFF).iter().sum(), self.both, calls - all[0] - all[7]]
+        let [staff, whys] = [&STAFF[..], &WHY].map(|calls| codes(calls).iter().sum());
+        [calls, staff, whys, self.both, calls - all[0] - all[7]]
     }
 
     /// Ends the run unless each call was answered with each code that it can have, at each order and tree
@@ -110,12 +113,13 @@ impl Tally {
             }
         }
         on_frames.iter().for_each(|what| self.demand(*what, self.above(), 0, &[4]));
-        ALL.iter().for_each(|what| self.demand(*what, self.above(), 0, &[1, 2]));
+        ALL.iter().chain(&WHY).for_each(|what| self.demand(*what, self.above(), 0, &[1, 2]));
         self.demand_trees(What::Get, &[0, 3, 4, 5, 7, 8]);
         self.demand_trees(What::GetAt, &[0, 3, 4, 5, 6, 7, 8]);
         self.demand_trees(What::Put, &[0, 3, 4, 5, 6, 7, 8]);
         self.demand_trees(What::IsFree, &[0, 3, 4, 5, 6]);
         self.demand_staff();
+        self.demand_why();
     }
 
     /// The same of the staff's calls: each way to answer, at each tree size. In trees of one huge frame no
@@ -145,6 +149,43 @@ impl Tally {
             };
             self.demand(What::StatsAt, order, way, &[0]);
             self.demand(What::StatsAt, order, 0, &[5]);
+        }
+    }
+
+    /// The same of those that say why: each reason that there can be, and each refusal. At order 0 a free frame
+    /// is a block, and at the top order of a tree so many free frames are all of it. In trees of one huge frame it
+    /// has as many free frames as its tree.
+    fn demand_why(&self) {
+        let [get, get_at, put] = WHY;
+        let reasons = |log: Option<usize>, order: Option<usize>| {
+            let below = |end: u64| order.is_none_or(|order| 0 < order && (order as u64) < end);
+            let huge = order.is_none_or(|order| order as u64 >= self.variant.huge_order);
+            let spread = log != Some(0) && below(self.variant.huge_order);
+            let all = [
+                (get, 0, true),
+                (get, 1, true),
+                (get, 2, spread),
+                (get, 3, below(self.variant.highest_order())),
+                (get_at, 0, true),
+                (get_at, 4, true),
+                (put, 0, true),
+                (put, 5, true),
+                (put, 6, huge),
+            ];
+            all.into_iter().filter(|(_, _, can)| *can).map(|(what, reason, _)| (what, reason))
+        };
+        for order in 0..self.above() {
+            reasons(None, Some(order)).for_each(|(what, reason)| self.demand(what, order, reason, &[0]));
+            WHY.iter().for_each(|what| self.demand(*what, order, 0, &[5, 8]));
+            if order > 0 && 1 << order < MOST {
+                [get_at, put].iter().for_each(|what| self.demand(*what, order, 0, &[6]));
+            }
+        }
+        WHY.iter().for_each(|what| self.demand(*what, self.above(), 0, &[4]));
+        for log in 0..TREES.len() {
+            reasons(Some(log), None).for_each(|(what, reason)| self.demand_tree(what, log, reason, &[0]));
+            WHY.iter().for_each(|what| self.demand_tree(*what, log, 0, &[3, 4, 5, 8]));
+            [get_at, put].iter().for_each(|what| self.demand_tree(*what, log, 0, &[6]));
         }
     }
 

@@ -1,4 +1,5 @@
-//! The rules for the lower level's calls. staff.rs has those of the kernel's staff.
+//! The rules for the lower level's calls. staff.rs has those of the kernel's staff, and why.rs those that say why
+//! a get or a put would be turned down.
 
 use super::bitfield::first_zeros;
 use super::blocks::{self, all, hold, set_all};
@@ -26,15 +27,17 @@ impl Lent<'_> {
         if (self.rows.len() as u64) < rows || (self.entries.len() as u64) < entries { 3 } else { 0 }
     }
 
-    fn refused_at_order(&self, order: u64) -> u64 {
+    /// "Order above the top order"; "row·64 ≥ N".
+    pub(super) fn refused_start(&self, row: u64, order: u64) -> u64 {
         match self.refused() {
             0 if order > self.shape.top_order() => 4,
+            0 if row as u128 * 64 >= self.shape.n as u128 => 5,
             code => code,
         }
     }
 
     /// "Order above the top order"; "frame + 2^order > N"; "frame not aligned".
-    fn refused_block(&self, frame: u64, order: u64) -> u64 {
+    pub(super) fn refused_block(&self, frame: u64, order: u64) -> u64 {
         match self.refused() {
             0 => blocks::refused(frame, order, self.shape.top_order(), self.shape.n),
             code => code,
@@ -110,8 +113,7 @@ impl Lent<'_> {
 
     /// Get without a frame: code; frame and probes.
     pub fn get(&mut self, row: u64, order: u64) -> (u64, [u64; 2]) {
-        match self.refused_at_order(order) {
-            0 if row as u128 * 64 >= self.shape.n as u128 => (5, [0, 0]),
+        match self.refused_start(row, order) {
             0 if order < self.shape.variant.huge_order => self.get_small(row, order),
             0 => self.get_huge(row, order),
             code => (code, [0, 0]),

@@ -22,7 +22,7 @@ impl Lent<'_> {
     }
 
     /// The huge frames of a frame's tree.
-    fn tree(&self, frame: u64) -> Range<u64> {
+    pub(super) fn tree(&self, frame: u64) -> Range<u64> {
         let first = frame / self.shape.tree_frames() * self.shape.t;
         first..first + self.shape.t
     }

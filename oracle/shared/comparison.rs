@@ -126,7 +126,7 @@ impl<C: Call> Comparison<C> {
         let rust = call.by_rust(&self.rust, before, model);
         let theirs = rust.as_ref();
         if ours != model || theirs.is_some_and(|rust| rust != model) {
-            let sides = [("ours", Some(ours)), ("document 01", Some(model)), ("the Rust", theirs)];
+            let sides = [("ours", Some(ours)), ("the model", Some(model)), ("the Rust", theirs)];
             self.differ(call, before, sides);
         }
         rust.is_some()

@@ -48,7 +48,7 @@ static word *call(const word *item, word *out)
     entry *entries = (entry *)(room + row_words) + 1;
     struct lent lent;
 
-    if (item[0] <= TREE_RUN) {
+    if (item[0] <= WHY_PUT) {
         struct call it = { item[0], own[0], own[1], own[2], own[3], own[4], own[5], rows, entries };
         out[0] = make(&it, &lent, &out[1]);
     } else {
