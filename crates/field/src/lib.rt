@@ -106,20 +106,29 @@ pub fn is_zero(h: usize, rows: &[u64], place: usize, order: usize) -> Answered
     }
 }
 
-// Turns whole rows one at a time, and puts those back where one differs: 0, else 7.
+// Turns whole rows, once all of them are seen to be as expected: 0, else 7. A turn of the loop sees two rows, one from each
+// end. Two rows at most are stored by themselves, as a loop takes longer than they do.
 fn toggle_rows(rows: &mut [u64], expected: bool) -> u32
     ensures { λ r. ⌜ out r (now (rows .exit)) ≡ spec.turnRows (now (rows .entry)) expected ⌝ }
 {
     let want = bits::solid_row(expected);
-    let other = bits::solid_row(!expected);
+    let len = rows.len();
     let mut i = 0;
-    while i < rows.len() {
-        if rows[i] != want {
-            bits::fill_rows(&mut rows[0..i], want);
+    let mut e = len;
+    while i < e {
+        e -= 1;
+        if rows[i] != want || rows[e] != want {
             return 7;
         }
-        rows[i] = other;
         i += 1;
+    }
+    if 2 < len {
+        bits::fill_rows(rows, !want);
+        return 0;
+    }
+    if 0 < len {
+        rows[0] = !want;
+        rows[len - 1] = !want;
     }
     0
 }
