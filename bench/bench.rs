@@ -16,11 +16,12 @@ mod shared {
 }
 mod turns;
 
+use std::array;
 use std::cell::RefCell;
 use std::hint::black_box;
 
 use calls::*;
-use rows::{Random, blocks, crowded};
+use rows::{Random, blocks, crowded, shared_start};
 use rust::Rust;
 use shared::library::Library;
 
@@ -138,15 +139,16 @@ fn main() {
         (6, "half of the blocks clear", &words),
         (7, "clear", &clear),
     ] {
+        let starts: [usize; 8] = array::from_fn(|row| shared_start(row, order));
         line(
             ["set_first_zeros", &order.to_string(), kind],
             states,
             1,
             |i, rows| unsafe {
-                (ours.set_first_zeros)(rows.as_mut_ptr(), 8, i % 8, order, &mut 0);
+                (ours.set_first_zeros)(rows.as_mut_ptr(), 8, starts[i % 8], order, &mut 0);
             },
             Some(|i, rows: &mut Rows| unsafe {
-                (rust.set_first_zeros)(rows.as_mut_ptr(), i % 8, order, &mut 0);
+                (rust.set_first_zeros)(rows.as_mut_ptr(), starts[i % 8], order, &mut 0);
             }),
         );
     }

@@ -1,5 +1,6 @@
 //! Times our lower level's gets and puts, and what is asked of one block, against the Rust's; sides.rs says
-//! what is called and turns.rs how it is timed. Run by bench/run, as: lower LIBRARY..
+//! what is called and turns.rs how it is timed. Gets of orders 7 and 8 that start past the first group of rows
+//! are ours alone. Run by bench/run, as: lower LIBRARY..
 
 // Not all of its rows are of use here.
 #[allow(dead_code)]
@@ -10,7 +11,9 @@ mod sides;
 mod state;
 mod turns;
 
-use rows::{Random, crowded};
+use std::iter;
+
+use rows::{Random, crowded, shared_start};
 use sides::{Kept, Ours, Rust, line};
 use state::{HUGE_FRAMES, HUGE_ORDER, HUGE_ROWS, MARK, State};
 
@@ -103,14 +106,17 @@ impl Load {
         }
     }
 
-    /// A line of the table: the time of a get, with its put where it found a block.
-    fn line(&self, name: &str, kind: &str, rust: &Rust, state: &State) {
+    /// A line of the table: the time of a get, with its put where it found a block. Without the Rust it is
+    /// ours alone.
+    fn line(&self, name: &str, kind: &str, rust: Option<&Rust>, state: &State) {
         let mut ours = Ours::of(state);
-        let mut theirs = OnKept { rust, kept: rust.keep(state) };
+        let mut theirs = rust.map(|rust| OnKept { rust, kept: rust.keep(state) });
         let (mut answers, mut others) = (Vec::new(), Vec::new());
         self.pass(&mut ours, |code, frame| answers.push((code, frame)));
-        self.pass(&mut theirs, |code, frame| others.push((code, frame)));
-        assert_eq!(answers, others, "{name} of order {} on a state {kind}", self.order);
+        if let Some(theirs) = &mut theirs {
+            self.pass(theirs, |code, frame| others.push((code, frame)));
+            assert_eq!(answers, others, "{name} of order {} on a state {kind}", self.order);
+        }
         // Each get that found a block has a put after it.
         let found = answers.len() - CALLS;
 
@@ -118,10 +124,10 @@ impl Load {
             [name, &state.t.to_string(), &self.order.to_string(), kind, &format!("{}%", 100 * found / CALLS)],
             CALLS,
             || turns::pass(|| self.pass(&mut ours, |_, _| {})),
-            Some(|| turns::pass(|| self.pass(&mut theirs, |_, _| {}))),
+            theirs.as_mut().map(|theirs| || turns::pass(|| self.pass(theirs, |_, _| {}))),
         );
-        let kept = rust.read(theirs.kept, state);
-        assert!(ours.state == *state && kept == *state, "what was got was not put back");
+        let kept = theirs.is_none_or(|theirs| theirs.rust.read(theirs.kept, state) == *state);
+        assert!(ours.state == *state && kept, "what was got was not put back");
     }
 }
 
@@ -137,7 +143,7 @@ fn crowded_tree(rust: &Rust, random: &mut Random) {
                 let tree = random.below(TREES as u64);
                 places.extend((0..RUN).map(|_| (tree * tree_rows + random.below(tree_rows)) as usize));
             }
-            Load { order: 0, places, at: false, together, kept }.line(name, kind, rust, &state);
+            Load { order: 0, places, at: false, together, kept }.line(name, kind, Some(rust), &state);
         }
     }
 }
@@ -192,12 +198,16 @@ fn blocks(rust: &Rust, half: &State, random: &mut Random) {
     }
 }
 
-fn orders(t: usize) -> [usize; 6] {
-    [0, 3, 6, 7, HUGE_ORDER, HUGE_ORDER + t.ilog2() as usize]
+fn orders(t: usize) -> [usize; 7] {
+    [0, 3, 6, 7, 8, HUGE_ORDER, HUGE_ORDER + t.ilog2() as usize]
 }
 
 fn any_frames(state: &State, order: usize, random: &mut Random) -> Vec<usize> {
     (0..CALLS).map(|_| (random.below((state.n >> order) as u64) as usize) << order).collect()
+}
+
+fn any_row(state: &State, random: &mut Random) -> usize {
+    random.below(state.n as u64 / 64) as usize
 }
 
 fn main() {
@@ -210,9 +220,23 @@ fn main() {
         let half = State::half(t, TREES, &mut random);
         for (kind, state) in [("fresh", &fresh), ("half full", &half), ("crowded", &crowded)] {
             for order in orders(t) {
-                let places = (0..CALLS).map(|_| random.below(state.n as u64 / 64) as usize).collect();
+                let places = (0..CALLS).map(|_| shared_start(any_row(state, &mut random), order)).collect();
+                Load { order, places, at: false, together: 1, kept: false }.line(
+                    "get, put",
+                    kind,
+                    Some(&rust),
+                    state,
+                );
+            }
+        }
+        for (kind, state) in
+            [("fresh, past the first group", &fresh), ("half full, past the first group", &half)]
+        {
+            for order in [7, 8] {
+                let rows = iter::repeat_with(|| any_row(state, &mut random));
+                let places = rows.filter(|row| row % HUGE_ROWS >> (order - 6) != 0).take(CALLS).collect();
                 Load { order, places, at: false, together: 1, kept: false }
-                    .line("get, put", kind, &rust, state);
+                    .line("get, put", kind, None, state);
             }
         }
         if t == 32 {
@@ -224,7 +248,7 @@ fn main() {
                 Load { order, places, at: true, together: 1, kept: false }.line(
                     "get_at, put",
                     kind,
-                    &rust,
+                    Some(&rust),
                     state,
                 );
             }

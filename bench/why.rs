@@ -14,7 +14,7 @@ mod sides;
 mod state;
 mod turns;
 
-use rows::{Random, crowded};
+use rows::{Random, crowded, shared_start};
 use sides::{Kept, NONE, Ours, Rust, line};
 use state::{HUGE_FRAMES, HUGE_ORDER, HUGE_ROWS, MARK, State};
 
@@ -64,8 +64,8 @@ impl Down<'_> {
     }
 }
 
-fn any_rows(random: &mut Random, state: &State) -> Vec<usize> {
-    (0..CALLS).map(|_| random.below(state.n as u64 / 64) as usize).collect()
+fn any_rows(random: &mut Random, state: &State, order: usize) -> Vec<usize> {
+    (0..CALLS).map(|_| shared_start(random.below(state.n as u64 / 64) as usize, order)).collect()
 }
 
 /// The last block of an order in any trees.
@@ -89,7 +89,7 @@ fn gets(rust: &Rust, random: &mut Random) {
         ("every other free", &striped, 8, 3),
         ("crowded", &crowded, HUGE_ORDER, 3),
     ] {
-        Down { kind, state, order, reason, places: any_rows(random, state) }.lines(
+        Down { kind, state, order, reason, places: any_rows(random, state, order) }.lines(
             ["get", "why_get"],
             |ours, row| ours.get(row, order, &mut 0, &mut 0),
             rust,

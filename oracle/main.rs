@@ -2,9 +2,9 @@
 //! by oracle/compare and oracle/sample, as:
 //!
 //!     oracle bitfield SEED ROWS STATES EDGES LIBRARIES -- WORKER..
-//!     oracle lower SEED RUNS EDGES BORROWS LIBRARIES -- WORKER..
+//!     oracle lower SEED RUNS EDGES BORROWS STARTS LIBRARIES -- WORKER..
 //!     oracle trace SEED LINES LIBRARIES -- PROGRAM..
-//!     oracle sample CALLS ANSWERS LIBRARIES
+//!     oracle sample CALLS ANSWERS ANSWERED LIBRARIES
 
 mod bitfield;
 mod lower;
@@ -21,7 +21,7 @@ fn main() {
         "bitfield" => bitfield::compare(Arguments::of(words)),
         "lower" => lower::compare(Arguments::of(words)),
         "trace" => trace::compare(Arguments::of(words)),
-        "sample" => lower::sample::write(&words[0], &words[1], &words[2..]),
+        "sample" => lower::sample::write([&words[0], &words[1], &words[2]], &words[3..]),
         _ => panic!("{name} is none of the names above"),
     }
 }

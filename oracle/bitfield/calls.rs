@@ -36,6 +36,14 @@ pub struct Call {
     pub flag: u32,
 }
 
+impl Call {
+    /// Whether this is a search of rows that the Rust begins elsewhere.
+    pub fn apart(&self) -> bool {
+        matches!(self.what, What::FirstZeros | What::SetFirstZeros)
+            && !self.variant.rust_begins_there(self.a, self.b)
+    }
+}
+
 impl fmt::Display for Call {
     fn fmt(&self, f: &mut fmt::Formatter) -> fmt::Result {
         let Call { what, length, a, b, flag, .. } = self;
@@ -138,6 +146,11 @@ impl comparison::Call for Call {
         if what == What::Set && (a, b) == (end, end) {
             // Document 01: here the Rust panics, and ours follows the document alone.
             assert_eq!(code, PANIC, "{self}: the Rust does not panic");
+            return None;
+        }
+        if self.apart() {
+            // Document 02, W-206: here ours follows the model alone. Only whether there is a block is the same.
+            assert_eq!(code as u64, model.code, "{self}: the Rust answers another code");
             return None;
         }
         let numbers = match what {

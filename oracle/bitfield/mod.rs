@@ -47,9 +47,10 @@ pub fn compare(arguments: Arguments<3>) {
 
     let tally = it.end();
     tally.demand_all();
-    let [searches, calls, refusals] = tally.figures();
+    let [searches, calls, refusals, apart] = tally.figures();
     println!(
-        "bitfield: {searches} row searches, {} states, {calls} calls, {refusals} refusals, 0 differences",
+        "bitfield: {searches} row searches, {} states, {calls} calls, {refusals} refusals, {apart} searches from \
+         outside the first group, 0 differences",
         states + edges
     );
 }

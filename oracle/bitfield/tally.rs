@@ -1,9 +1,11 @@
-//! What the comparison of bitfield calls came by: how often each was answered with each code.
+//! What the comparison of bitfield calls came by: how often each was answered with each code, and where those
+//! searches ended that the Rust begins elsewhere.
 
 use crate::bitfield::calls::{Call, What};
 use crate::model::numbers::Variant;
 use crate::shared::comparison;
 use crate::shared::demand::demand;
+use crate::shared::reach::Reach;
 use crate::shared::room::{Outcome, Room};
 
 const CALLS: usize = 1 + What::CountZeros as usize - What::Search as usize;
@@ -13,6 +15,8 @@ const CALLS: usize = 1 + What::CountZeros as usize - What::Search as usize;
 pub struct Tally {
     variant: Variant,
     counts: Vec<Vec<[[u64; 8]; 2]>>,
+    /// Searches that the Rust begins elsewhere, for each order and Reach; the last are those that found no block.
+    apart: Vec<[u64; 4]>,
 }
 
 fn number(what: What) -> usize {
@@ -24,13 +28,21 @@ impl comparison::Tally<Call> for Tally {
         let order = if call.what == What::Set { 0 } else { call.b.min(self.above()) };
         let flag = if call.what == What::IsZero { answer.numbers[0] != 0 } else { call.flag != 0 };
         self.counts[number(call.what)][order as usize][flag as usize][answer.code as usize] += 1;
+        match answer.code {
+            0 if call.apart() => {
+                let reach = Reach::of(self.variant, call.a, order, answer.numbers[0]);
+                self.apart[order as usize][reach as usize] += 1;
+            }
+            7 if call.apart() => self.apart[order as usize][3] += 1,
+            _ => {}
+        }
     }
 }
 
 impl Tally {
     pub fn new(variant: Variant) -> Tally {
         let orders = variant.huge_order as usize + 2;
-        Tally { variant, counts: vec![vec![[[0; 8]; 2]; orders]; CALLS] }
+        Tally { variant, counts: vec![vec![[[0; 8]; 2]; orders]; CALLS], apart: vec![[0; 4]; orders] }
     }
 
     /// The place of all orders above a bitfield's.
@@ -38,9 +50,10 @@ impl Tally {
         self.variant.huge_order + 1
     }
 
-    /// One-row searches, calls on rows, and those of both that were refused with 3 to 6.
-    pub fn figures(&self) -> [u64; 3] {
-        let mut figures = [0; 3];
+    /// One-row searches, calls on rows, those of both that were refused with 3 to 6, and searches of rows that the
+    /// Rust begins elsewhere.
+    pub fn figures(&self) -> [u64; 4] {
+        let mut figures = [0, 0, 0, self.apart.as_flattened().iter().sum()];
         for (call, orders) in self.counts.iter().enumerate() {
             for codes in orders.iter().flatten() {
                 figures[(call != number(What::Search)) as usize] += codes.iter().sum::<u64>();
@@ -81,6 +94,19 @@ impl Tally {
             self.demand(What::Fill, 0, value, &[0, 3]);
         }
         self.demand(What::CountZeros, 0, false, &[0, 3]);
+        for order in 7..highest {
+            let [origin, above, below, none] = self.apart[order as usize];
+            let met = |count, what| {
+                demand("bitfield", count, format!("order {order}, outside the first group, {what}"))
+            };
+            met(origin, "done where it begins");
+            // Of two groups none is above the second.
+            if order + 1 < highest {
+                met(above, "done above");
+            }
+            met(below, "done below");
+            met(none, "no block");
+        }
     }
 
     fn demand(&self, what: What, order: u64, flag: bool, codes: &[usize]) {

@@ -46,9 +46,10 @@ __attribute__((section("__libfuzzer_extra_counters"))) static struct {
     uint8_t orders[CALLS][9][20][8], trees[10][CALLS][9];
 } counters;
 
-/* For `oracle/fuzz/run summary`: how often each call had each code, how many calls the Rust answered too, how many
- * runs gave back what they had borrowed, and for which reasons requests would be turned down. */
-static word made[CALLS][9], answered, returned, reasons[CALLS][7];
+/* For `oracle/fuzz/run summary`: how often each call had each code, how many calls the Rust answered too, and how many
+ * with the rows turned, how many runs gave back what they had borrowed, and for which reasons requests would be turned
+ * down. */
+static word made[CALLS][9], answered, turned, returned, reasons[CALLS][7];
 
 /* ---- Failing. */
 
@@ -459,21 +460,47 @@ static void check_done(const struct call *it, const size *numbers, int own, int 
     }
 }
 
+/* The row of each huge frame at which a get's search begins above order 6: the first of "the group holding (start row
+ * mod 8)" (document 02, W-206). It is 0 where the Rust's begins, which is always at row 0, and for all other calls. */
+static word origin(const struct call *it)
+{
+    return it->what == GET && it->order > 6 && it->order < 9 ? it->at % 8 & ~0ull << (it->order - 6) : 0;
+}
+
+/* Turns the rows of each huge frame, so that this one comes first and those before it come last. */
+static void turn(word *rows, word count, word first)
+{
+    word old[8];
+
+    for (word at = 0; first % 8 != 0 && at < count; at += 8) {
+        memcpy(old, rows + at, sizeof old);
+        for (word row = 0; row < 8; row++)
+            rows[at + row] = old[(first + row) % 8];
+    }
+}
+
 /* Where the Rust has an answer, it is ours: the call passes 1 to 6 and is not refused with 8, "less `recover` with
- * absent entries". A panic is no answer of ours. */
+ * absent entries". A panic is no answer of ours. A get that the Rust begins elsewhere it is asked for with the rows
+ * turned, so that it begins where ours does; then the rows and the place are turned back. */
 static void check_rust(const struct call *it, number code, const size *numbers, word count)
 {
     int absent = (it->n + 511) / 512 % it->t != 0;
+    word first = origin(it);
     size theirs[NUMBERS];
 
     if (it->what == AUDIT || it->what >= TREE_ROOM || (it->what == RECOVER && absent))
         return;
     memcpy(theirs, numbers, sizeof theirs);
     copy(&trial, &before);
+    turn(trial.rows + GUARD, rows_of(it->n), first);
     demand(make_rust(it, trial.rows + GUARD, trial.entries + GUARD, theirs) == code, "the Rust answers another code");
+    turn(trial.rows + GUARD, rows_of(it->n), 8 - first);
+    if (code == 0)
+        theirs[0] = theirs[0] / 512 * 512 + (theirs[0] + 64 * first) % 512;
     demand(!memcmp(theirs, numbers, count * sizeof *theirs), "the Rust answers other numbers");
     demand(same(&trial, &now), "the Rust leaves other rows or entries");
-    answered++;
+    answered += first == 0;
+    turned += first != 0;
 }
 
 /* Whether all is as before but what a call may write: the needed rows and entries, of one tree for gets and puts. */
@@ -788,8 +815,9 @@ static void summary(void)
         }
         printf("\n");
     }
-    printf("%lu calls, %lu of them answered by the Rust too; %lu runs gave back what they had borrowed\n", calls,
-           answered, returned);
+    printf("%lu calls, %lu of them answered by the Rust too, and %lu with the rows turned; %lu runs gave back what they "
+           "had borrowed\n",
+           calls, answered, turned, returned);
 }
 
 int LLVMFuzzerInitialize(int *argc, char ***argv)

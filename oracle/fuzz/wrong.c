@@ -15,7 +15,8 @@ enum {
     SPREAD_AT_9,
     HIGHEST_HELD,
     WHOLE_STATE,
-    SINGLY_FIRST
+    SINGLY_FIRST,
+    ROW_IGNORED
 };
 
 /* What each is before, and what stands before it, are as the header has them. */
@@ -29,11 +30,13 @@ WRAPPED(rb_why_get);
 WRAPPED(rb_why_get_at);
 WRAPPED(rb_why_put);
 
-/* The frame after the one that was taken; it writes though its order is too high; or where the tree has no block it
- * goes on to the next. */
+/* The frame after the one that was taken; it writes though its order is too high; where the tree has no block it goes
+ * on to the next; or order 7 begins at row 0 of each huge frame. */
 number __wrap_rb_get(size n, size t, word *rows, size rows_len, entry *entries, size entries_len, size row, size order,
                      size *frame, size *probes)
 {
+    if (WRONG == ROW_IGNORED && order == 7 && row < (n + 63) / 64)
+        row -= row % 8;
     number code = __real_rb_get(n, t, rows, rows_len, entries, entries_len, row, order, frame, probes);
 
     if (WRONG == GET_NEXT && code == 0)

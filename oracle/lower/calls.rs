@@ -98,6 +98,11 @@ impl Call {
         Call { shape: Shape { n, t, ..self.shape }, ..self }
     }
 
+    /// Whether this is a get whose searches of huge frames the Rust begins elsewhere.
+    pub fn apart(&self) -> bool {
+        self.what == What::Get && !self.shape.variant.rust_begins_there(self.at, self.order)
+    }
+
     /// What it lends of a room.
     pub fn lends(self, room: &mut Room) -> Lent<'_> {
         let (rows, entries) = room.lent(self.rows, self.entries);
@@ -129,8 +134,8 @@ impl fmt::Display for Call {
     }
 }
 
-/// Whether the Rust is to answer a call as the model does: it has the call, and the equality domain is what
-/// "passes 1 to 6 and is not refused with 8, less `recover` with absent entries".
+/// Whether the Rust has the call, and must have an answer: the equality domain is what "passes 1 to 6 and is not
+/// refused with 8, less `recover` with absent entries".
 fn in_domain(call: &Call, model: &Outcome) -> bool {
     (model.code == 0 || model.code == 7)
         && match call.what {
@@ -215,6 +220,15 @@ impl comparison::Call for Call {
                 _ => unreachable!("not in the domain"),
             }
         };
+        if self.apart() {
+            // Document 02, W-206: here ours follows the model alone. Only the code and the huge frame are the
+            // Rust's: whether there is a block in one does not depend on where its search begins.
+            let [theirs, ours] =
+                [found as u64, model.numbers[0]].map(|at| at / self.shape.variant.huge_frames());
+            assert_eq!(code as u64, model.code, "{self}: the Rust answers another code");
+            assert_eq!(theirs, ours, "{self}: the Rust finds a block in another huge frame");
+            return None;
+        }
         let changes = before.changes(&after);
         let numbers = match self.what {
             What::Get | What::GetAt => vec![found as u64, model.numbers[1]],

@@ -169,8 +169,8 @@ fn borrow(it: &mut Comparison, shape: Shape, random: &mut Random) -> u64 {
     ledger.borrowed
 }
 
-pub fn compare(arguments: Arguments<3>) {
-    let Arguments { mut random, amounts: [runs, edges, borrows], libraries, command } = arguments;
+pub fn compare(arguments: Arguments<4>) {
+    let Arguments { mut random, amounts: [runs, edges, borrows, starts], libraries, command } = arguments;
     let builds = Builds::load(&libraries);
     let variant = builds.variant;
     let nothing = Room::new((0, 0), &mut random);
@@ -239,14 +239,26 @@ pub fn compare(arguments: Arguments<3>) {
         progress.say(done, borrows, "runs that give all back");
     }
     assert!(borrowed > 0, "nothing was borrowed");
+    for done in 0..starts {
+        let shape = shape(done, &mut random);
+        let mut room = states::in_groups(shape, &mut random);
+        if random.below(2) == 0 {
+            states::damage(&mut room, shape, &mut random);
+        }
+        it.state(room);
+        it.each(runs::from_each_row(shape, random.below(shape.present())));
+        progress.say(done, starts, "states with gets from each row");
+    }
 
     let states = it.states;
     let tally = it.end();
     tally.demand_all();
     let [calls, staff, whys, both, refusals] = tally.figures();
+    let [apart, origin, above, below, none] = tally.apart();
     println!(
         "lower: {states} states, {calls} calls ({staff} of stats, stats_at, audit, recover, room and tree_run, {whys} \
          of why_get, why_get_at and why_put), {both} of them answered by the Rust too, {refusals} refusals; \
-         {borrows} runs borrowed {borrowed} frames, returned all of them and left no trace; 0 differences",
+         {apart} gets from outside the first group ({origin} done where they begin, {above} above, {below} below, \
+         {none} refused with 7); {borrows} runs borrowed {borrowed} frames, returned all of them and left no trace; 0 differences",
     );
 }

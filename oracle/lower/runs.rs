@@ -175,6 +175,15 @@ pub fn requests(shape: Shape, random: &mut Random) -> Vec<Call> {
     calls
 }
 
+/// Gets from each row of a huge frame that begins below N, at each order above 6 and below that of the huge frame.
+pub fn from_each_row(shape: Shape, huge: u64) -> impl Iterator<Item = Call> {
+    let (plain, rows) = (Call::lending(shape, 0, 0), shape.variant.huge_rows());
+    let below_n = (rows * huge..rows * huge + rows).filter(move |row| 64 * row < shape.n);
+    below_n.flat_map(move |at| {
+        (7..shape.variant.huge_order).map(move |order| Call { what: What::Get, at, order, ..plain })
+    })
+}
+
 /// A get from a frame's row, and a get and a put of its block, at an order below that of a huge frame and at the top
 /// order.
 pub fn about(shape: Shape, frame: u64, random: &mut Random) -> Vec<Call> {

@@ -64,24 +64,45 @@ fn scattered(variant: Variant, clear: u64, random: &mut Random) -> Vec<u64> {
     rows
 }
 
+/// The rows of a huge frame in pairs, the groups of order 7: clear, clear but for one bit, or full.
+fn pairs(variant: Variant, random: &mut Random) -> Vec<u64> {
+    let pair = |_| {
+        let bit = 1 << random.below(64);
+        random.one_of(&[[0, 0], [0, 0], [0, 0], [0, bit], [bit, 0], [u64::MAX; 2], [u64::MAX; 2]])
+    };
+    (0..variant.huge_rows() / 2).flat_map(pair).collect()
+}
+
 /// A consistent state, fresh, half full, crowded, full, or with fewer free frames in each huge frame than some
 /// order wants.
 pub fn consistent(shape: Shape, random: &mut Random) -> Room {
+    let fullness = random.below(5);
+    filled(shape, fullness, random)
+}
+
+/// A consistent state in whose huge frames some groups of rows are free.
+pub fn in_groups(shape: Shape, random: &mut Random) -> Room {
+    filled(shape, 5, random)
+}
+
+/// A consistent state as one of the two above has it: fresh, and so on by number; the last is that of `in_groups`.
+fn filled(shape: Shape, fullness: u64, random: &mut Random) -> Room {
     let variant = shape.variant;
     let (need_rows, need_entries) = shape.needed();
     let mut room = Room::new((need_rows, need_entries), random);
     let (rows, entries) = room.lent(need_rows, need_entries);
     entries.fill(0);
-    let fullness = random.below(5);
     let wanted = 1 << random.below(variant.huge_order);
     for (huge, rows) in rows.chunks_mut(variant.huge_rows() as usize).enumerate() {
-        // 0 free, 1 held whole, 2 all bits set, 3 mixed, 4 one block free, 5 fewer free frames than wanted.
+        // 0 free, 1 held whole, 2 all bits set, 3 mixed, 4 one block free, 5 fewer free frames than wanted,
+        // 6 pairs of rows.
         let kind = match fullness {
             0 => 0,
             1 => random.one_of(&[0, 1, 3, 3, 3]),
             2 => random.one_of(&[1, 2, 4, 4]),
             3 => random.one_of(&[1, 2]),
-            _ => random.one_of(&[1, 2, 5, 5, 5, 5]),
+            4 => random.one_of(&[1, 2, 5, 5, 5, 5]),
+            _ => random.one_of(&[1, 2, 4, 6, 6, 6]),
         };
         let past = shape.n.saturating_sub(variant.huge_frames() * huge as u64)..variant.huge_frames();
         match kind {
@@ -94,6 +115,7 @@ pub fn consistent(shape: Shape, random: &mut Random) -> Room {
             1 | 2 => rows.fill(u64::MAX),
             3 => rows.copy_from_slice(&mixed(variant, random)),
             4 => rows.copy_from_slice(&one_block(variant, random)),
+            6 => rows.copy_from_slice(&pairs(variant, random)),
             _ => {
                 let clear = random.below(wanted);
                 rows.copy_from_slice(&scattered(variant, clear, random));

@@ -5,6 +5,7 @@ use crate::lower::calls::{ALL, CALLS, Call, STAFF, WHY, What};
 use crate::model::numbers::{MOST, TREES, Variant};
 use crate::shared::comparison;
 use crate::shared::demand::demand;
+use crate::shared::reach::Reach;
 use crate::shared::room::{Outcome, Room};
 
 /// Ways to answer, at most.
@@ -28,12 +29,13 @@ pub struct Tally {
 /// of a frame not free or free, a huge frame not free or free, a tree not free or free, or nothing; the
 /// reason of an audit; `recover` of nothing, entries, bitfields or both, or the reason that it was refused
 /// for; room without or with a free tree; tree run of the first tree or another; the reason for which a get or a
-/// put would be turned down. All else is 0.
+/// put would be turned down; of a get, that of `way_of_get`. All else is 0.
 fn way(call: &Call, before: &mut Room, answer: &Outcome) -> usize {
     let Outcome { code, numbers, .. } = answer;
     let above_0 = |number: usize| (numbers[number] > 0) as usize;
     match call.what {
         What::Recover if *code == 8 => call.lends(before).past_mending() as usize,
+        What::Get => way_of_get(call, answer),
         _ if *code != 0 => 0,
         What::IsFree | What::TreeRun => above_0(0),
         What::Stats => above_0(2),
@@ -47,6 +49,22 @@ fn way(call: &Call, before: &mut Room, answer: &Outcome) -> usize {
         What::Recover => above_0(0) + 2 * above_0(1),
         What::TreeRoom => above_0(call.shape.top_order() as usize),
         What::WhyGet | What::WhyGetAt | What::WhyPut => numbers[0] as usize,
+        _ => 0,
+    }
+}
+
+/// Of a get past the refusals 1 to 6 whose searches the Rust begins elsewhere: refused with 7 or 8 it is 1; done
+/// in the start row's huge frame 1, 2 or 3, by its Reach; and in another 4, 5 or 6. Of all other gets it is 0.
+fn way_of_get(call: &Call, answer: &Outcome) -> usize {
+    let Outcome { code, numbers, .. } = answer;
+    match code {
+        _ if !call.apart() => 0,
+        0 => {
+            let variant = call.shape.variant;
+            let reach = Reach::of(variant, call.at, call.order, numbers[0] % variant.huge_frames());
+            1 + reach as usize + 3 * (numbers[1] > 1) as usize
+        }
+        7 | 8 => 1,
         _ => 0,
     }
 }
@@ -90,6 +108,20 @@ impl Tally {
         [calls, staff, whys, self.both, calls - all[0] - all[7]]
     }
 
+    /// The gets past the refusals 1 to 6 whose searches the Rust begins elsewhere; those of them that were done,
+    /// by their Reach; and those refused with 7.
+    pub fn apart(&self) -> [u64; 5] {
+        let mut figures = [0; 5];
+        for ways in &self.orders[What::Get as usize] {
+            for (way, codes) in ways.iter().enumerate().skip(1) {
+                figures[0] += codes.iter().sum::<u64>();
+                figures[1 + (way - 1) % 3] += codes[0];
+                figures[4] += codes[7];
+            }
+        }
+        figures
+    }
+
     /// Ends the run unless each call was answered with each code that it can have, at each order and tree
     /// size.
     pub fn demand_all(&self) {
@@ -118,8 +150,24 @@ impl Tally {
         self.demand_trees(What::GetAt, &[0, 3, 4, 5, 6, 7, 8]);
         self.demand_trees(What::Put, &[0, 3, 4, 5, 6, 7, 8]);
         self.demand_trees(What::IsFree, &[0, 3, 4, 5, 6]);
+        self.demand_apart();
         self.demand_staff();
         self.demand_why();
+    }
+
+    /// The same of the gets whose searches the Rust begins elsewhere: each way. Of two groups none is above the
+    /// second, and in trees of one huge frame there is no other.
+    fn demand_apart(&self) {
+        let huge_order = self.variant.huge_order as usize;
+        for order in 7..huge_order {
+            let ways = (1..7).filter(|way| order + 1 < huge_order || ![2, 5].contains(way));
+            ways.for_each(|way| self.demand(What::Get, order, way, &[0]));
+            self.demand(What::Get, order, 1, &[7, 8]);
+        }
+        for log in 0..TREES.len() {
+            (1..if log == 0 { 4 } else { 7 }).for_each(|way| self.demand_tree(What::Get, log, way, &[0]));
+            self.demand_tree(What::Get, log, 1, &[7, 8]);
+        }
     }
 
     /// The same of the staff's calls: each way to answer, at each tree size. In trees of one huge frame no

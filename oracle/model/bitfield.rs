@@ -1,7 +1,7 @@
 //! The rules for the calls on one row, and on the rows of one huge frame.
 
 use super::blocks::{all, hold, lowest, refused, set_all, zeros};
-use super::numbers::Variant;
+use super::numbers::{Variant, group_rows};
 
 /// "One-row search: to 6", else 4; "in a row the lowest free aligned place"; a failed search is 7. The answer
 /// is code; place and row.
@@ -66,23 +66,22 @@ pub fn is_zero(variant: Variant, rows: &[u64], place: u64, order: u64) -> (u64, 
     }
 }
 
-/// Code and place. "Orders 0 to 6: eight rows from (start row mod 8), wrapping; in a row the lowest free
-/// aligned place. Orders 7 and 8: groups of 2 or 4 rows (8 for a bitfield search at order 9) from row 0;
-/// the start row is ignored; the first group all zero."
+/// Code and place. Document 01: "Orders 0 to 6: eight rows from (start row mod 8), wrapping; in a row the lowest
+/// free aligned place. Orders 7 and 8: groups of 2 or 4 rows (8 for a bitfield search at order 9) .. the first
+/// group all zero." Document 02, W-206: "The search in a huge frame at these orders shall start from the group
+/// holding (start row mod 8) and wrap." To order 6 a group is one row, so it is one rule for all orders.
 pub fn first_zeros(variant: Variant, rows: &[u64], start_row: u64, order: u64) -> (u64, u64) {
     let code = refused_place(variant, rows, 0, order);
     if code != 0 {
         return (code, 0);
     }
-    let count = variant.huge_rows();
-    let found = if order <= 6 {
-        (0..count).find_map(|step| {
-            let row = (start_row % count + step) % count;
-            lowest(rows, row * 64..row * 64 + 64, order)
-        })
-    } else {
-        lowest(rows, 0..variant.huge_frames(), order)
-    };
+    let frames = 64 * group_rows(order);
+    let groups = variant.huge_frames() / frames;
+    let holding = start_row % variant.huge_rows() / group_rows(order);
+    let found = (0..groups).find_map(|step| {
+        let first = (holding + step) % groups * frames;
+        lowest(rows, first..first + frames, order)
+    });
     found.map_or((7, 0), |place| (0, place))
 }
 

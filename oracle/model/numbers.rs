@@ -9,6 +9,12 @@ pub const LARGEST_TREE: u64 = TREES[TREES.len() - 1];
 /// "Entry 65535 is the mark: a huge frame held whole, free count 0."
 pub const MARK: u16 = 65535;
 
+/// The rows of a group, as a search of a huge frame visits them: "groups of 2 or 4 rows (8 for a bitfield search
+/// at order 9)"; to order 6, one row.
+pub const fn group_rows(order: u64) -> u64 {
+    if order <= 6 { 1 } else { 1 << (order - 6) }
+}
+
 /// What the page size decides. Where the document says order 9, 512 frames or eight rows it means the default
 /// size; with pages of 16 KiB it is order 11.
 #[derive(Clone, Copy, PartialEq)]
@@ -25,6 +31,13 @@ impl Variant {
     /// The rows of a huge frame.
     pub const fn huge_rows(self) -> u64 {
         self.huge_frames() / 64
+    }
+
+    /// Whether the Rust begins a search of a huge frame where document 02, W-206, has it begin. Above order 6 the
+    /// Rust begins at row 0, whatever the start row: so "only where that start lies in the first group". From the
+    /// huge order up there is no other group.
+    pub const fn rust_begins_there(self, start_row: u64, order: u64) -> bool {
+        order <= 6 || order >= self.huge_order || start_row % self.huge_rows() < group_rows(order)
     }
 
     /// "Top order = 9 + log2 T."

@@ -7,5 +7,6 @@ pub mod library;
 pub mod process;
 pub mod progress;
 pub mod random;
+pub mod reach;
 pub mod room;
 pub mod worker;

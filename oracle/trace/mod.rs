@@ -1,4 +1,4 @@
-//! Compares what our program `trace` prints with what document 01 and the Rust say that it is to print, line
+//! Compares what our program `trace` prints with what the documents and the Rust say that it is to print, line
 //! by line.
 
 pub mod expected;
@@ -106,7 +106,7 @@ impl<'a> Input<'a> {
         println!("trace: a difference in line {} of {}, in parts of {part}", same + 1, input.len());
         println!("  input: {:.200}", text(&input));
         println!("  ours: {:.200}", text(&printed));
-        println!("  document 01 and the Rust: {}", text(&expected));
+        println!("  the documents and the Rust: {}", text(&expected));
         exit(1);
     }
 }

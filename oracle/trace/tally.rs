@@ -18,6 +18,8 @@ pub struct Tally {
     unended: [u64; 2],
     /// Those that the Rust answered too.
     both: u64,
+    /// Gets that were done and whose searches the Rust begins elsewhere.
+    apart: u64,
 }
 
 impl Tally {
@@ -29,6 +31,7 @@ impl Tally {
         };
         self.codes[call.what as usize][outcome.code as usize] += 1;
         self.both += *both as u64;
+        self.apart += (call.apart() && outcome.code == 0) as u64;
         if is_start(call) && outcome.code == 0 {
             self.starts[call.shape.t.ilog2() as usize] += 1;
         }
@@ -62,6 +65,7 @@ impl Tally {
         }
         TREES.iter().zip(self.starts).for_each(|(t, count)| met(count, &format!("a start with T {t}")));
         self.bad.iter().zip(SPOILS).for_each(|(count, (name, _))| met(*count, name));
+        met(self.apart, "a get from outside the first group");
         met(self.unended[0], "a last good line that has no end");
         met(self.unended[1], "a last bad line that has no end");
     }

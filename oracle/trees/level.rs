@@ -127,7 +127,9 @@ impl Level {
         }
         let free = free - frames;
         self.local(class).set(Some(Reservation { row, free }));
-        match self.both.get(row, order, frame) {
+        // From a huge frame's first row both begin with the same group above order 6 too (document 02, W-206).
+        let start = if order > 6 { row.as_huge().as_row() } else { row };
+        match self.both.get(start, order, frame) {
             Ok(frame) => {
                 self.local(class).set(Some(Reservation { row: frame.as_row(), free }));
                 Ok(frame)

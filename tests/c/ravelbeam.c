@@ -292,6 +292,20 @@ static void bad_arguments(void)
     block_refused(1000, 11, RB_BAD_LENT);
 }
 
+/* Document 02, W-206: in each huge frame orders 7 and 8 begin with the block of row % 8, and wrap. */
+static void near_the_start(void)
+{
+    start(1024, 2);
+    GET(5, 7, RB_DONE, 256, 1);
+    GET(5, 7, RB_DONE, 384, 1);
+    GET(5, 7, RB_DONE, 0, 1);
+    GET(5, 8, RB_DONE, 768, 2);
+    GET(5, 7, RB_DONE, 128, 1);
+    GET(5, 7, RB_DONE, 512, 2);
+    GET(8, 7, RB_DONE, 640, 1);
+    GET(8, 7, RB_MEMORY, 0, 2);
+}
+
 /* A row with the bits of the frames below a number clear, and the others set. */
 static uint64_t clear_below(size_t frames, size_t at)
 {
@@ -681,7 +695,9 @@ static void bitfield(void)
     FIRST_ZEROS(8, 11, 0, RB_DONE, 192);
     FIRST_ZEROS(8, SIZE_MAX, 6, RB_DONE, 448);
     FIRST_ZEROS(8, 3, 7, RB_DONE, 128);
+    FIRST_ZEROS(8, 13, 7, RB_DONE, 256);
     FIRST_ZEROS(8, 3, 8, RB_DONE, 256);
+    FIRST_ZEROS(8, SIZE_MAX, 8, RB_DONE, 256);
     search_refused(8, 9, RB_MEMORY);
     rows[7] = ONES;
     FIRST_ZEROS(8, 7, 0, RB_DONE, 1);
@@ -689,6 +705,8 @@ static void bitfield(void)
     CHECK(rows[0] == 1 && rows_are(1, 3, 0) && rows[3] == 0xff && rows_are(4, 7, 0));
     SET_FIRST_ZEROS(8, 3, 7, RB_DONE, 256);
     CHECK(rows[3] == 0xff && rows_are(4, 6, ONES) && rows[6] == 0);
+    rows[3] = 0;
+    FIRST_ZEROS(8, 6, 7, RB_DONE, 128);
     FILL(8, 2, RB_DONE);
     CHECK(rows_are(0, 8, ONES));
     search_refused(8, 0, RB_MEMORY);
@@ -747,6 +765,7 @@ int main(void)
     example();
     lines_to_check();
     bad_arguments();
+    near_the_start();
     sizes();
     no_block();
     borrow_and_return();

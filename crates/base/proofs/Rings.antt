@@ -1,7 +1,7 @@
 -- Places on a ring of k by how far they come behind one of them: no two come equally far. Assumes nothing.
 use mathlib.Core.Path.{_≡_, sym, ap, _∙_}
 use Prim.Native.Nat.{ℕ, _+_, _-_, _*_, _/_, _%_, _<_}
-use native.Mathlib.Nat.{add-comm, div-add-mod', mod-lt, mul-add-mod-self-right}
+use native.Mathlib.Nat.{add-zero, add-comm, zero-mod, div-add-mod', mod-lt, mul-add-mod-self-right}
 use native.Mathlib.Omega.{arith}
 use Rattle.base.specs.Ring.{stepsTo}
 use Rattle.base.proofs.Rests.{mod-sum}
@@ -20,6 +20,10 @@ module _ (k s : ℕ) where
     steps-ahead d =
         let e : s + d + (k - s % k) ≡ (s / k + 1) * k + d = omega (arith, div-add-mod' s k, mod-lt s pos) in
         ap (λ (x : ℕ). x % k) e ∙ mul-add-mod-self-right (s / k + 1) k d
+
+    -- s itself comes first
+    pub steps-own : stepsTo k s s ≡ 0
+    steps-own = rw (add-zero s) at (steps-ahead 0) ∙ zero-mod k
 
     -- what comes so far behind it lies as far ahead
     pub ahead-steps : (p : ℕ) → (s + stepsTo k s p) % k ≡ p % k

@@ -1,11 +1,13 @@
 -- The sizes that follow from the huge order h, whichever of the two it is, the masks of a size and of its places, and a smaller size within a larger. Assumes nothing.
 use mathlib.Core.Path.{_≡_, sym, ap, _∙_}
 use Prim.Native.Nat.{ℕ, _+_, _-_, _*_, _/_, _%_, _^_, _≤_, _<_}
-use native.Mathlib.Nat.{add-zero, sub-add-cancel, mul-assoc, mul-comm, mul-le-mul-right, lt-of-mul-lt-mul-right, mul-mod-left, mod-lt, mod-eq-of-lt, div-add-mod', div-div-eq-div-mul, div-mul-le-self, lt-div-mul-add, mul-div-mul-right}
+use native.Mathlib.Decide.{decLt}
+use native.Mathlib.Nat.{add-zero, sub-add-cancel, mul-one, mul-assoc, mul-comm, mul-le-mul-right, lt-of-mul-lt-mul-right, mul-mod-left, mod-lt, mod-eq-of-lt, div-add-mod', div-one, div-div-eq-div-mul, div-mul-le-self, lt-div-mul-add, mul-div-cancel, mul-div-mul-right}
 use native.Mathlib.Omega.{arith}
+use lib.Arith.{mod-mul}
 use lib.Bits.{bitAnd, and-mask}
 use lib.Dec.{lit<}
-use lib.Pow.{pow-pos, pow-mono, pow-add, mod-mod-pow}
+use lib.Pow.{pow-pos, pow-mono, pow-add, mod-mod-pow, field}
 use Rattle.base.specs.Size.{Huge, rowsPer}
 use Rattle.base.proofs.Masks.{and-block}
 use Rattle.base.proofs.Rests.{quotient-is, block-ends, mod-rows}
@@ -25,6 +27,10 @@ frames-fit H = pow-mono (H .high)
 -- and at least 512
 pub frames-many : {h : ℕ} → Huge h → 512 ≤ 2 ^ h
 frames-many H = pow-mono (H .low)
+
+-- its rows are 32 at most
+pub rows-fit : {h : ℕ} → Huge h → rowsPer h ≤ 32
+rows-fit {h} H = let l : h - 6 ≤ 5 = omega (arith, H .high) in pow-mono l
 
 -- the first row of huge frame x begins with its first frame
 pub first-row : {h : ℕ} → Huge h → (x : ℕ) → x * rowsPer h * 64 ≡ x * 2 ^ h
@@ -49,6 +55,29 @@ place-ends p o k l e =
     let low : p % 2 ^ k < 2 ^ (k - o) * 2 ^ o = rw w (mod-lt p (pow-pos k)) in
     rw w at (block-ends (p % 2 ^ k) (2 ^ o) (2 ^ (k - o)) (rest-by-less p o k l ∙ e) low)
 
+-- blocks of the smaller size wrap within the larger as their numbers do
+pub blocks-wrap : (b o k : ℕ) → o ≤ k → b * 2 ^ o % 2 ^ k ≡ b % 2 ^ (k - o) * 2 ^ o
+blocks-wrap b o k l =
+    rw (← pow-divides o k l)
+    (mod-mul (b * 2 ^ o) (pow-pos (k - o)) (pow-pos o) ∙ rw (mul-div-cancel b (pow-pos o), mul-mod-left b (2 ^ o)) (add-zero (b % 2 ^ (k - o) * 2 ^ o)))
+
+-- a number rounded down to a whole block wraps like the number itself
+pub block-wraps : (a o k : ℕ) → o ≤ k → a % 2 ^ k / 2 ^ o * 2 ^ o ≡ a / 2 ^ o * 2 ^ o % 2 ^ k
+block-wraps a o k l =
+    ap (λ (x : ℕ). a % 2 ^ x / 2 ^ o * 2 ^ o) (sym (sub-add-cancel l)) ∙ ap (λ (x : ℕ). x * 2 ^ o) (field a (k - o) o) ∙ sym (blocks-wrap (a / 2 ^ o) o k l)
+
+-- rows rounded down to a whole group are frames rounded down to a whole block
+pub rows-rounded : (row o : ℕ) → row / 2 ^ (o - 6) * 2 ^ (o - 6) * 64 ≡ row * 64 / 2 ^ o * 2 ^ o
+rows-rounded row o = elim (decLt 6 o) [
+  | yes high ↦
+      let size = pow-divides 6 o (omega arith) in
+      mul-assoc (row / 2 ^ (o - 6)) (2 ^ (o - 6)) 64 ∙ rw (← size) (ap (λ (x : ℕ). x * (2 ^ (o - 6) * 64)) (sym (mul-div-mul-right row (2 ^ (o - 6)) (lit< tt))))
+  | no low ↦
+      let one : o - 6 ≡ 0 = omega arith in
+      let size : row * 64 ≡ row * 2 ^ (6 - o) * 2 ^ o = ap (λ (x : ℕ). row * x) (sym (pow-divides o 6 (omega arith))) ∙ sym (mul-assoc row (2 ^ (6 - o)) (2 ^ o)) in
+      rw (one, div-one, mul-one) (size ∙ ap (λ (x : ℕ). x * 2 ^ o) (sym (ap (λ (x : ℕ). x / 2 ^ o) size ∙ mul-div-cancel (row * 2 ^ (6 - o)) (pow-pos o))))
+]
+
 -- the x-th run of 2 ^ k is made up of as many blocks of the smaller size, numbered from x * 2 ^ (k - o) on
 module _ (o k x : ℕ) (l : o ≤ k) where
   pub block-number : (f : ℕ) → f / 2 ^ k ≡ x → (x * 2 ^ (k - o) ≤ f / 2 ^ o) × (f / 2 ^ o < x * 2 ^ (k - o) + 2 ^ (k - o))
@@ -62,7 +91,7 @@ module _ (o k x : ℕ) (l : o ≤ k) where
 
 -- the last place of a block of 2 ^ o in 2 ^ k, as a mask: it keeps a place exactly if that is aligned and its block ends in 2 ^ k
 module _ (p o k : ℕ) (l : o ≤ k) where
-  kept : bitAnd p (2 ^ k - 2 ^ o) ≡ p / 2 ^ o % 2 ^ (k - o) * 2 ^ o
+  pub kept : bitAnd p (2 ^ k - 2 ^ o) ≡ p / 2 ^ o % 2 ^ (k - o) * 2 ^ o
   kept =
       let w = pow-divides o k l in
       let z = pow-pos (k - o) in

@@ -1,29 +1,25 @@
 -- The order of a search: it visits each aligned place of the huge frame once, by its distance behind the origin. Assumes nothing.
-use mathlib.Core.Path.{_≡_, refl, sym, ap, _∙_, subst}
-use mathlib.Core.Bool.{Bool, true, false}
+use mathlib.Core.Path.{_≡_, sym, ap, _∙_, subst}
 use Prim.Native.Nat.{ℕ, _+_, _-_, _*_, _/_, _%_, _^_, _≤_, _<_}
-use native.Mathlib.Nat.{sub-add-cancel, mod-mod, mod-eq-of-lt, mul-add-mod-self-right, mul-mod-left, div-add-mod', mul-le-mul-right, mul-assoc, zero-mul, mul-div-cancel, add-mul}
+use native.Mathlib.Nat.{sub-add-cancel, mod-mod, mod-eq-of-lt, mul-add-mod-self-right, mul-mod-left, div-add-mod', mul-le-mul-right, mul-div-cancel, add-mul}
 use native.Mathlib.Omega.{arith}
-use lib.Dec.{leb}
 use lib.Pow.{pow-pos, shr-lt}
-use borrow.Author.Tests.{leb-true}
-use Rattle.base.specs.Walk.{pick}
 use Rattle.base.specs.Size.{Huge, rowsPer}
 use Rattle.base.proofs.Rings.{steps-rest, steps-low, steps-ahead, ahead-steps}
-use Rattle.base.proofs.Sizes.{pow-divides, rest-by-less, place-ends}
+use Rattle.base.proofs.Sizes.{pow-divides, rows-wrap, rest-by-less, place-ends, blocks-wrap, block-wraps, rows-rounded}
 use Rattle.bitfield_rules.specs.Calls.{origin, visited, distance}
 
 module _ {h : ℕ} (H : Huge h) (start o : ℕ) (lh : o ≤ h) where
-  -- the origin's first place is aligned
-  origin-even : origin h start o * 64 ≡ origin h start o * 64 / 2 ^ o * 2 ^ o
-  origin-even = go (leb o 6) refl
-    where
-      even : (a q : ℕ) → a ≡ q * 2 ^ o → a ≡ a / 2 ^ o * 2 ^ o
-      even a q e = e ∙ sym (ap (λ (x : ℕ). x / 2 ^ o * 2 ^ o) e ∙ ap (λ (x : ℕ). x * 2 ^ o) (mul-div-cancel q (pow-pos o)))
+  -- the origin's first place is that of the block which holds the start row
+  pub origin-block : origin h start o * 64 ≡ start * 64 / 2 ^ o * 2 ^ o % 2 ^ h
+  origin-block = rows-rounded (start % rowsPer h) o ∙ rw (rows-wrap H start) (block-wraps (start * 64) o h lh)
 
-      go : (b : Bool) → leb o 6 ≡ b → pick b (start % rowsPer h) 0 * 64 ≡ pick b (start % rowsPer h) 0 * 64 / 2 ^ o * 2 ^ o
-      go true e = even (start % rowsPer h * 64) (start % rowsPer h * 2 ^ (6 - o)) (sym (mul-assoc (start % rowsPer h) (2 ^ (6 - o)) (2 ^ o) ∙ ap (λ (x : ℕ). start % rowsPer h * x) (pow-divides o 6 (leb-true o 6 e))))
-      go false e = even (0 * 64) 0 (sym (zero-mul (2 ^ o)))
+  -- so it is aligned
+  origin-even : origin h start o * 64 ≡ origin h start o * 64 / 2 ^ o * 2 ^ o
+  origin-even =
+      let b = start * 64 / 2 ^ o % 2 ^ (h - o) in
+      let e : origin h start o * 64 ≡ b * 2 ^ o = origin-block ∙ blocks-wrap (start * 64 / 2 ^ o) o h lh in
+      e ∙ sym (ap (λ (x : ℕ). x / 2 ^ o * 2 ^ o) e ∙ ap (λ (x : ℕ). x * 2 ^ o) (mul-div-cancel b (pow-pos o)))
 
   -- each step from it is aligned
   step-even : (j : ℕ) → (origin h start o * 64 + j * 2 ^ o) % 2 ^ o ≡ 0

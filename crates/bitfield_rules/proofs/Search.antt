@@ -1,24 +1,25 @@
--- The search, place by place, as the code makes it: rows from the start row on, wrapping, or groups from row 0. Assumes nothing.
+-- The search, place by place, as the code makes it: from the start row on, or from the group that holds it, wrapping. Assumes nothing.
 use mathlib.Core.Path.{_≡_, sym, ap, _∙_, subst}
 use mathlib.Core.Bool.{Bool, true, false}
 use mathlib.Core.List.{List}
 use Prim.Native.Nat.{ℕ, _+_, _-_, _*_, _/_, _%_, _^_, _≤_, _<_}
 use native.Mathlib.Decide.{decLt}
-use native.Mathlib.Nat.{sub-add-cancel, mod-mod, mod-eq-of-lt, mul-mod-left, div-add-mod', zero-add, mul-le-mul-right, mul-assoc, add-mul}
+use native.Mathlib.Nat.{sub-add-cancel, mod-mod, mul-mod-left, div-one, div-add-mod', mul-one, zero-add, mul-le-mul-right, mul-assoc, add-mul, add-mul-div-right}
 use native.Mathlib.Omega.{arith}
+use lib.Bits.{bitAnd}
 use lib.Dec.{eqb}
 use lib.Pow.{pow-pos, pow-add, shr-lt}
 use lib.ListN.{length, getD}
-use borrow.Author.Tests.{eq-eqb, ne-eqb, le-leb, lt-leb, lt-ltb, le-ltb}
+use borrow.Author.Tests.{eq-eqb, ne-eqb, le-leb, lt-ltb, le-ltb}
 use Rattle.base.specs.Code.{orElse, out}
 use Rattle.base.specs.Size.{Huge, rowsPer}
 use Rattle.base.specs.Bits.{bitsAt, blockIs, withBits}
 use Rattle.base.proofs.Rests.{mod-sum, mod-rows}
 use Rattle.base.proofs.Walks.{first-is, first-never}
-use Rattle.base.proofs.Sizes.{rows-frames, pow-divides}
+use Rattle.base.proofs.Sizes.{rows-frames, pow-divides, blocks-wrap, kept}
 use Rattle.base.proofs.Rows.{block-row}
 use Rattle.bitfield_rules.specs.declared.Placed.{Placed}
-use Rattle.bitfield_rules.specs.Calls.{placed, orderCode, visited, passed, firstZeros, setFirstZeros}
+use Rattle.bitfield_rules.specs.Calls.{placed, orderCode, groupRows, visited, passed, firstZeros, setFirstZeros}
 
 -- whether the place that is visited after j others is clear
 abbrev pub clearAt : ℕ → List ℕ → ℕ → ℕ → ℕ → Bool
@@ -83,7 +84,8 @@ module _ {h : ℕ} (H : Huge h) (rows : List ℕ) (start o : ℕ) (l6 : o ≤ 6)
       let small : k * 2 ^ o < 64 = omega arith in
       let w : (t * 2 ^ (6 - o) + k) * 2 ^ o ≡ t * 64 + k * 2 ^ o = add-mul (t * 2 ^ (6 - o)) k (2 ^ o) ∙ ap (λ (x : ℕ). x + k * 2 ^ o) (mul-assoc t (2 ^ (6 - o)) (2 ^ o) ∙ ap (λ (x : ℕ). t * x) full) in
       let s : start % rowsPer h * 64 + (t * 64 + k * 2 ^ o) ≡ (start % rowsPer h + t) * 64 + k * 2 ^ o = omega arith in
-      rw (le-leb o 6 l6, w, s, rows-frames H)
+      let one : o - 6 ≡ 0 = omega arith in
+      rw (one, div-one, mul-one, w, s, rows-frames H)
       (mod-rows (start % rowsPer h + t) (k * 2 ^ o) (rowsPer h) small pos ∙ ap (λ (x : ℕ). x * 64 + k * 2 ^ o) (mod-sum start t (rowsPer h)))
 
   -- is clear where its bits in that row are
@@ -141,15 +143,22 @@ module _ {h : ℕ} (H : Huge h) (rows : List ℕ) (start o : ℕ) (l6 : o ≤ 6)
 
 -- ---- above order 6: group by group
 
--- a group ends within the huge frame
-pub group-ends : (h o j : ℕ) → o ≤ h → j < 2 ^ (h - o) → j * 2 ^ o + 2 ^ o ≤ 2 ^ h
-group-ends h o j lh l =
-    let fit : (j + 1) * 2 ^ o ≤ 2 ^ (h - o) * 2 ^ o = mul-le-mul-right (2 ^ o) (omega arith) in
-    omega (arith, pow-divides o h lh)
+module _ (h o : ℕ) (l6 : 6 < o) (lh : o ≤ h) where
+  -- the rows of all groups are all rows
+  pub all-groups : 2 ^ (h - o) * groupRows o ≡ rowsPer h
+  all-groups = let e : h - 6 - (o - 6) ≡ h - o = omega arith in rw (← e) (pow-divides (o - 6) (h - 6) (omega arith))
 
--- and is visited in its turn, from row 0 on
-pub group-at : (h start o j : ℕ) → 6 < o → o ≤ h → j < 2 ^ (h - o) → visited h start o j ≡ j * 2 ^ o
-group-at h start o j l6 lh l =
-    let p = pow-pos o in
-    let small : 0 * 64 + j * 2 ^ o < 2 ^ h = omega (arith, group-ends h o j lh l) in
-    rw (lt-leb o 6 l6) (mod-eq-of-lt small ∙ omega arith)
+  -- the group that is visited after k others begins with the row k groups on from the start row, rounded down to a whole group and wrapped: one mask does both
+  pub group-at : (start k row : ℕ) {rows group : ℕ} → rows ≡ rowsPer h → group ≡ groupRows o → row ≡ start % rowsPer h + k * groupRows o
+      → visited h start o k ≡ bitAnd row (rows - group) * 64
+  group-at start k row all one is =
+      let s = start % rowsPer h in
+      let g = s / groupRows o in
+      let size : groupRows o * 64 ≡ 2 ^ o = pow-divides 6 o (omega arith) in
+      let e : g * groupRows o * 64 ≡ g * 2 ^ o = mul-assoc g (groupRows o) 64 ∙ ap (λ (x : ℕ). g * x) size in
+      let less : h - 6 - (o - 6) ≡ h - o = omega arith in
+      let number : row / groupRows o ≡ g + k = ap (λ (x : ℕ). x / groupRows o) is ∙ add-mul-div-right s k (pow-pos (o - 6)) in
+      let masked : bitAnd row (rowsPer h - groupRows o) ≡ (g + k) % 2 ^ (h - o) * groupRows o =
+      kept row (o - 6) (h - 6) (omega arith) ∙ ap (λ (x : ℕ). row / groupRows o % 2 ^ x * groupRows o) less ∙ ap (λ (x : ℕ). x % 2 ^ (h - o) * groupRows o) number in
+      rw (all, one, e, masked)
+      (ap (λ (x : ℕ). x % 2 ^ h) (sym (add-mul g k (2 ^ o))) ∙ blocks-wrap (g + k) o h lh ∙ sym (mul-assoc ((g + k) % 2 ^ (h - o)) (groupRows o) 64 ∙ ap (λ (x : ℕ). (g + k) % 2 ^ (h - o) * x) size))

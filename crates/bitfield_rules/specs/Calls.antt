@@ -1,7 +1,7 @@
 -- The calls on the rows of one huge frame, of huge order h: document 01, "Refusal numbers" and "Get".
 use mathlib.Core.Bool.{Bool, true, false, not, _&&_}
 use mathlib.Core.List.{List}
-use Prim.Native.Nat.{ℕ, _+_, _-_, _*_, _%_, _^_}
+use Prim.Native.Nat.{ℕ, _+_, _-_, _*_, _/_, _%_, _^_}
 use lib.Dec.{eqb, leb, ltb}
 use lib.ListN.{length, getD, replicate}
 use Rattle.base.specs.Walk.{pick, first, all, count}
@@ -64,9 +64,13 @@ isZero h rows p o =
 unfoldable pub countZeros : ℕ → List ℕ → ZeroCount
 countZeros h rows = pick (eqb (rowsCode h (length rows)) 0) (zeroCount 0 (count (bitIs false rows) (2 ^ h) 0)) (zeroCount (rowsCode h (length rows)) 0)
 
--- "Get": the first row that a search visits is the start row modulo the rows; above order 6 it is row 0
+-- the rows of a group that is searched as one: above order 6 those of a block, 2 ^ (o - 6), and else 1
+abbrev pub groupRows : ℕ → ℕ
+groupRows o = 2 ^ (o - 6)
+
+-- "Get", and document 02, W-206: the first row that a search visits is the first of "the group holding (start row mod 8)"
 abbrev pub origin : ℕ → ℕ → ℕ → ℕ
-origin h start o = pick (leb o 6) (start % rowsPer h) 0
+origin h start o = start % rowsPer h / groupRows o * groupRows o
 
 -- the place that a search visits after j others: the aligned places upwards from the origin, wrapping
 abbrev pub visited : ℕ → ℕ → ℕ → ℕ → ℕ

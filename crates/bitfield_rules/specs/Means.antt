@@ -35,7 +35,7 @@ pub record Checked (h len p o : ℕ) : Type 0 where
 abbrev pub NoneClear : ℕ → List ℕ → ℕ → Type 0
 NoneClear h rows o = (q : ℕ) → q % 2 ^ o ≡ 0 → q + 2 ^ o ≤ 2 ^ h → Each false rows q (2 ^ o) → ⊥
 
--- .. or the block at p is, and none before it: "from (start row mod 8), wrapping", "in a row the lowest"; above order 6 "groups of 2 or 4 rows .. from row 0"
+-- .. or the block at p is, and none before it: "from (start row mod 8), wrapping", "in a row the lowest"; above order 6 "from the group holding (start row mod 8)"
 pub record FirstClear (h : ℕ) (rows : List ℕ) (start o p : ℕ) : Type 0 where
   pub block : Within h (length rows) p o
   pub clear : Each false rows p (2 ^ o)

@@ -1,6 +1,6 @@
 // Replays lines of `trace`, by the same dialogue, and prints each answer with a digest of the needed entries and rows
-// after it. Its stored input and output are a sample of the Rust's own answers (oracle/sample makes both), so a run shows
-// equality with the Rust where there is none at hand.
+// after it. Its stored input and output are a sample of the Rust's own answers, and of the model's where the file
+// `answered` says so (oracle/sample makes all three). So a run shows equality with the Rust where there is none at hand.
 ghost use Prim.Native.Nat.{_≤_};
 ghost use Rattle.dialogue.specs.Feeds.{Ready};
 use dialogue::Reply;

@@ -6,16 +6,15 @@ use Prim.Native.Nat.{ℕ, _+_, _-_, _*_, _/_, _^_, _≤_, _<_}
 use native.Mathlib.Decide.{decLt}
 use native.Mathlib.Nat.{div-one, mul-one}
 use native.Mathlib.Omega.{arith}
-use lib.Dec.{leb}
 use lib.Pow.{pow-pos}
 use borrow.Author.Tests.{eq-eqb, lt-ltb, le-ltb}
-use Rattle.base.specs.Walk.{pick, all}
+use Rattle.base.specs.Walk.{all}
 use Rattle.base.specs.Code.{Out, out}
 use Rattle.base.specs.Size.{Huge, rowsPer}
 use Rattle.base.proofs.Rests.{digits-less}
 use Rattle.base.proofs.Walks.{first-hit, first-before}
 use Rattle.rules.specs.declared.Got.{Got}
-use Rattle.rules.specs.Numbers.{hugeOf, treeOf, entriesNeeded, groupOf}
+use Rattle.rules.specs.Numbers.{hugeOf, treeOf, entriesNeeded, groupOf, blockAt}
 use Rattle.rules.specs.State.{Mem}
 use Rattle.rules.specs.Refusals.{startRefusal}
 use Rattle.rules.specs.Get.{got, taken, visit, stops, entryAt, visitsPassed, ended, getSmall, get}
@@ -131,7 +130,7 @@ module _ {h n t : ℕ} {m : Mem} {y : ℕ} (H : Huge h) (c : ConsistentIn h n t 
           (λ both.
           let same = sym (round-is f) ∙ both .0 ∙ a-round ∙ sym x-steps in
           s .first f (record { huge = steps-same t (row / rowsPer h) pos (hugeOf h f) x (tree-ring f (b .tree) ∙ sym x-ring) same; aligned = b .aligned; ends = b .ends }) (both .1))
-          (digits-less (2 ^ h) (round h t row o f) (turnIn h row o f) (round h t row o a) (turnIn h row o a) (steps-low (2 ^ h) (pick (leb o 6) (row * 64) 0) (pow-pos h) a) less)
+          (digits-less (2 ^ h) (round h t row o f) (turnIn h row o f) (round h t row o a) (turnIn h row o a) (steps-low (2 ^ h) (blockAt o (row * 64)) (pow-pos h) a) less)
 
       get-first : Took h n t m (taken h m a o) a o → get h n t m row o ≡ out (got 0 a (j + 1)) (taken h m a o)
           → First h n t m row o a × Took h n t m (taken h m a o) a o

@@ -5,12 +5,12 @@ use native.Mathlib.Nat.{add-zero, zero-mod, mul-mod-left, mul-add-mod-self-right
 use native.Mathlib.Omega.{arith}
 use lib.Arith.{digits-div, digits-mod}
 use lib.Pow.{pow-pos}
-use borrow.Author.Tests.{lt-leb}
-use Rattle.base.specs.Size.{Huge}
+use Rattle.base.proofs.Sizes.{rest-by-less}
+use Rattle.rules.specs.Numbers.{blockAt}
 use Rattle.rules.specs.Get.{groupAt, entryAt}
 use Rattle.rules.proofs.GroupSteps.{Tree, tree-some, rest-by-group, own-group, own-low}
 use Rattle.rules.specs.Exact.{stepsTo, round, rank}
-use Rattle.rules.proofs.Rings.{steps-rest, steps-ahead, ahead-steps, visited-steps, steps-visited}
+use Rattle.rules.proofs.Rings.{steps-rest, steps-own, ahead-steps, visited-steps, steps-visited}
 
 module _ {t g x first c lent : ℕ} (T : Tree t g x first c lent) where
   -- the group that holds x is one of the tree of x
@@ -39,8 +39,9 @@ module _ {t g x first c lent : ℕ} (T : Tree t g x first c lent) where
         group-visited (d / g) ∙ rw q (steps-visited t (x / g * g) (tree-some T) y (e ∙ sym own-tree))
 
 -- a block's turn is by its huge frame alone
-pub turn-above : {h : ℕ} (t row o at : ℕ) → Huge h → h ≤ o → rank h t row o (at * 2 ^ h) ≡ round h t row o (at * 2 ^ h) * 2 ^ h
-turn-above {h} t row o at H l =
-    let z : at * 2 ^ h % 2 ^ h ≡ (0 + 0) % 2 ^ h = mul-mod-left at (2 ^ h) ∙ sym (zero-mod (2 ^ h)) in
-    rw (lt-leb o 6 (omega (arith, H .low)), steps-rest (2 ^ h) 0 (at * 2 ^ h) (0 + 0) z, steps-ahead (2 ^ h) 0 (pow-pos h) 0, zero-mod (2 ^ h))
+pub turn-above : {h : ℕ} (t row o at : ℕ) → h ≤ o → rank h t row o (at * 2 ^ h) ≡ round h t row o (at * 2 ^ h) * 2 ^ h
+turn-above {h} t row o at l =
+    let s = blockAt o (row * 64) in
+    let whole : s % 2 ^ h ≡ 0 = sym (rest-by-less s h o l) ∙ ap (λ (r : ℕ). r % 2 ^ h) (mul-mod-left (row * 64 / 2 ^ o) (2 ^ o)) ∙ zero-mod (2 ^ h) in
+    rw (steps-rest (2 ^ h) s (at * 2 ^ h) s (mul-mod-left at (2 ^ h) ∙ sym whole), steps-own (2 ^ h) s (pow-pos h))
     (add-zero (round h t row o (at * 2 ^ h) * 2 ^ h))

@@ -137,7 +137,7 @@ module _ {h n t : ℕ} {m : Mem} {y : ℕ} (H : Huge h) (c : ConsistentIn h n t 
     -- a block whose turn comes earlier was passed
     earlier : (f : ℕ) → rank h t row o f < rank h t row o a → round h t row o f / g < passed
     earlier f less =
-        let k : round h t row o f < round h t row o a = lt-of-mul-lt-mul-right (2 ^ h) (omega (arith, turn-above t row o (at passed) H l)) in
+        let k : round h t row o f < round h t row o a = lt-of-mul-lt-mul-right (2 ^ h) (omega (arith, turn-above t row o (at passed) l)) in
         div-lt-iff-lt-mul (tree .wide) .1 (omega (arith, visit-round passed u))
 
     found : First h n t m row o a

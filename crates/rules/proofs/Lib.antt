@@ -22,6 +22,7 @@ pub mod Marks
 pub mod Moves
 pub mod OneTree
 pub mod OtherTrees
+pub mod OwnBlock
 pub mod Recovers
 pub mod Refusals
 pub mod Results

@@ -5,7 +5,7 @@ use native.Mathlib.Nat.{div-add-mod', mod-lt, mod-eq-of-lt}
 use lib.Arith.{digits-div, digits-mod}
 use Rattle.base.specs.Ring.{stepsTo}
 use Rattle.base.proofs.Rests.{mod-sum}
-pub use Rattle.base.proofs.Rings.{steps-rest, steps-low, steps-ahead, ahead-steps, steps-same}
+pub use Rattle.base.proofs.Rings.{steps-rest, steps-low, steps-ahead, steps-own, ahead-steps, steps-same}
 use Rattle.rules.specs.Get.{entryAt}
 
 module _ (k s : ℕ) (pos : 0 < k) where

@@ -2,7 +2,7 @@
 use mathlib.Core.Path.{_≡_}
 use Prim.Native.Nat.{ℕ}
 use Rattle.rules.specs.State.{Mem}
-use Rattle.rules.specs.Exact.{Consistency, Demand2In, Demand2}
+use Rattle.rules.specs.Exact.{Consistency, Demand2In, Demand2, OwnBlockFirst}
 use Rattle.rules.specs.Steps.{EveryStep}
 use Rattle.rules.specs.Keeps.{Keeps, CallsKeep}
 use Rattle.rules.specs.OneTree.{OneTree}
@@ -24,6 +24,7 @@ use Rattle.rules.proofs.Unread.{needed-alone}
 use Rattle.rules.proofs.Runs.{calls-keep-consistent, ledger-tells, borrowed-leaves-no-trace, frames-never-shared}
 use Rattle.rules.proofs.FreeCounts.{stats-is-exact}
 use Rattle.rules.proofs.Exacts.{calls-are-exact}
+use Rattle.rules.proofs.OwnBlock.{own-block-taken}
 use Rattle.rules.proofs.OneTree.{tree-alone}
 use Rattle.rules.proofs.Results.{results-equal, table-right}
 use Rattle.rules.proofs.Whys.{whys-told}
@@ -63,6 +64,9 @@ demand-2-in = calls-are-exact
 
 pub demand-2 : Demand2
 demand-2 h n t m H c = record { trees = λ y. demand-2-in h n t m y H (c y); counts = stats-is-exact h n t m H c }
+
+pub own-block-first : OwnBlockFirst
+own-block-first h n t m row o H = own-block-taken H row o
 
 pub marks-move : MarksMove
 marks-move = calls-mark

@@ -4,18 +4,16 @@ use mathlib.Core.Bool.{true}
 use Prim.Native.Nat.{ℕ, _*_, _/_, _%_, _^_, _<_}
 use native.Mathlib.Nat.{div-div-eq-div-mul}
 use lib.Arith.{digits-div, digits-mod}
-use lib.Dec.{leb}
 use lib.Pow.{pow-pos}
-use Rattle.base.specs.Walk.{pick}
 use Rattle.base.specs.Size.{rowsPer}
-use Rattle.rules.specs.Numbers.{hugeOf, isTree, groupOf}
+use Rattle.rules.specs.Numbers.{hugeOf, isTree, blockAt, groupOf}
 use Rattle.rules.proofs.Numbers.{tree-pos}
 use Rattle.rules.specs.Exact.{stepsTo, round, rank, Candidate}
 use Rattle.rules.proofs.Rings.{steps-low, steps-same}
 
 pub turns-differ : (h n t row o f g : ℕ) → isTree t ≡ true → Candidate h n t row o f → Candidate h n t row o g → rank h t row o f ≡ rank h t row o g → f ≡ g
 turns-differ h n t row o f g T a b e =
-    let s = pick (leb o 6) (row * 64) 0 in
+    let s = blockAt o (row * 64) in
     let base = row / rowsPer h / groupOf h o * groupOf h o in
     let i = round h t row o f in
     let j = round h t row o g in

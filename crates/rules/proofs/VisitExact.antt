@@ -1,7 +1,7 @@
 -- A visit of a get, on any memory of the needed size, in terms of the places of all rows: it passes, or is damage, or ends at the first clear block. Assumes nothing.
 use mathlib.Core.Path.{_≡_, refl, ap, _∙_}
 use mathlib.Core.Bool.{Bool, true, false, not, _&&_, _||_}
-use Prim.Native.Nat.{ℕ, _+_, _-_, _*_, _%_, _^_, _≤_, _<_}
+use Prim.Native.Nat.{ℕ, _+_, _-_, _*_, _^_, _≤_, _<_}
 use native.Mathlib.Decide.{decLt}
 use native.Mathlib.Omega.{arith}
 use lib.Dec.{eqb, leb, ltb}
@@ -15,11 +15,11 @@ use Rattle.base.specs.Bits.{blockIs}
 use Rattle.base.proofs.Tests.{not-leb}
 use Rattle.base.proofs.Walks.{first-same, first-le}
 use Rattle.base.proofs.Rests.{mod-sum}
-use Rattle.base.proofs.Sizes.{rows-frames, first-row, rows-wrap}
+use Rattle.base.proofs.Sizes.{rows-frames, first-row}
 use Rattle.base.proofs.Parts.{part-long, block-part}
 use Rattle.bitfield_rules.specs.Calls.{placed, visited, passed, firstZeros}
-use Rattle.bitfield_rules.proofs.Order.{visited-ends}
-use Rattle.rules.specs.Numbers.{mark}
+use Rattle.bitfield_rules.proofs.Order.{origin-block, visited-ends}
+use Rattle.rules.specs.Numbers.{mark, blockAt}
 use Rattle.rules.specs.State.{Mem, entryOf, freeOf, rowsOf}
 use Rattle.rules.specs.Refusals.{sizesRefusal}
 use Rattle.rules.proofs.Lent.{sized, present-rows}
@@ -51,11 +51,7 @@ leads h n e x o k c q p at u = elim (decLt k c) [
 module _ {h : ℕ} (H : Huge h) (m : Mem) (row o x : ℕ) (l : o < h) where
   -- the places that are searched in a part are places of all rows
   place-is : (j : ℕ) → x * 2 ^ h + visited h row o j ≡ place h row o x j
-  place-is j = ap (λ (k : ℕ). x * 2 ^ h + k) (go (leb o 6))
-    where
-      go : (b : Bool) → (pick b (row % rowsPer h) 0 * 64 + j * 2 ^ o) % 2 ^ h ≡ (pick b (row * 64) 0 + j * 2 ^ o) % 2 ^ h
-      go true = rw (rows-wrap H row) (mod-sum (row * 64) (j * 2 ^ o) (2 ^ h))
-      go false = refl
+  place-is j = ap (λ (k : ℕ). x * 2 ^ h + k) (rw (origin-block H row o (omega arith)) (mod-sum (blockAt o (row * 64)) (j * 2 ^ o) (2 ^ h)))
 
   passed-is : passed h (rowsOf h (m .rows) x) row o ≡ missed h m row o x
   unfolding passed

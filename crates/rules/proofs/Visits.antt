@@ -1,28 +1,28 @@
 -- A get's visit of one entry of a consistent tree, below the huge order: it passes an entry of which no block is free, or answers the first that is. Assumes nothing.
 use mathlib.Core.Path.{_≡_, refl, sym, ap, _∙_, subst, subst₂}
-use mathlib.Core.Bool.{Bool, true, false, not, not-eq-not, true≢false}
+use mathlib.Core.Bool.{true, false, not, not-eq-not, true≢false}
 use mathlib.Core.List.{List}
 use mathlib.Core.Logic.{⊎-elim}
 use Prim.Native.Nat.{ℕ, _+_, _-_, _*_, _/_, _%_, _^_, _≤_, _<_}
 use native.Mathlib.Decide.{decLt, ℕ-discrete}
 use native.Mathlib.Nat.{mod-mod, div-add-mod', div-mul-le-self}
 use native.Mathlib.Omega.{arith}
-use lib.Dec.{leb}
 use lib.ListN.{length}
 use lib.Arith.{digits-mod}
 use lib.Pow.{pow-pos}
-use Rattle.base.specs.Walk.{pick, all}
+use Rattle.base.specs.Walk.{all}
 use Rattle.base.specs.Size.{Huge, rowsPer}
 use Rattle.base.specs.Bits.{bitIs, blockIs}
-use Rattle.base.proofs.Sizes.{rows-frames, first-row, rows-wrap}
+use Rattle.base.proofs.Sizes.{rows-frames, first-row}
 use Rattle.base.proofs.Rests.{mod-sum}
 use Rattle.base.proofs.Parts.{part-long, bit-part, block-part}
 use Rattle.base.proofs.Frames.{block-each, set-not-clear}
 use Rattle.bitfield_rules.specs.declared.Placed.{Placed}
-use Rattle.bitfield_rules.specs.Calls.{origin, distance, firstZeros}
+use Rattle.bitfield_rules.specs.Calls.{distance, firstZeros}
 use Rattle.bitfield_rules.specs.Means.{FirstClear}
 use Rattle.bitfield_rules.proofs.Laws.{search-found, search-missed, search-code}
-use Rattle.rules.specs.Numbers.{mark, hugeOf, entriesNeeded}
+use Rattle.bitfield_rules.proofs.Order.{origin-block}
+use Rattle.rules.specs.Numbers.{mark, hugeOf, blockAt, entriesNeeded}
 use Rattle.rules.specs.State.{Mem, entryOf, rowsOf}
 use Rattle.rules.proofs.Lent.{present-rows}
 use Rattle.rules.specs.declared.Visit.{Visit}
@@ -43,7 +43,7 @@ pub record BlockOf (h n o x f : ℕ) : Type 0 where
 
 -- when its turn comes among the blocks of its huge frame
 abbrev pub turnIn : ℕ → ℕ → ℕ → ℕ → ℕ
-turnIn h row o f = stepsTo (2 ^ h) (pick (leb o 6) (row * 64) 0) f
+turnIn h row o f = stepsTo (2 ^ h) (blockAt o (row * 64)) f
 
 -- no block of huge frame x is free
 abbrev pub NoneOf : ℕ → ℕ → Mem → ℕ → ℕ → Type 0
@@ -65,12 +65,10 @@ Says h n m row o x (Place a) = FirstOf h n m row o x a
 -- ---- a search of one huge frame's rows
 
 -- a search looks at the places of a huge frame in the order of the blocks' turns
-distance-turn : {h : ℕ} → Huge h → (row o f : ℕ) → distance h row o (f % 2 ^ h) ≡ turnIn h row o f
-distance-turn {h} H row o f = rw (go (leb o 6)) (mod-sum f (2 ^ h - origin h row o * 64 % 2 ^ h) (2 ^ h))
-  where
-    go : (b : Bool) → pick b (row * 64) 0 % 2 ^ h ≡ pick b (row % rowsPer h) 0 * 64 % 2 ^ h
-    go true = sym (rw (rows-wrap H row) (mod-mod (row * 64) (2 ^ h)))
-    go false = refl
+distance-turn : {h : ℕ} → Huge h → (row o f : ℕ) → o ≤ h → distance h row o (f % 2 ^ h) ≡ turnIn h row o f
+distance-turn {h} H row o f l =
+    let s = blockAt o (row * 64) in
+    rw (origin-block H row o l, mod-mod s (2 ^ h)) (mod-sum f (2 ^ h - s % 2 ^ h) (2 ^ h))
 
 module _ {h n t : ℕ} {m : Mem} {y : ℕ} (H : Huge h) (c : ConsistentIn h n t m y) (row o : ℕ) (low : o < h) (x : ℕ) (own : x / t ≡ y) where
   -- ---- an entry that is a count
@@ -133,14 +131,14 @@ module _ {h n t : ℕ} {m : Mem} {y : ℕ} (H : Huge h) (c : ConsistentIn h n t 
           let is = visit-placed (looked enough) z (found-ends w) in
           let it = visit-free H n (m .rows) (m .entries) row o x a (sym is) in
           let place : found .place < 2 ^ h = omega (arith, w .block .ends, pow-pos o) in
-          let far : distance h row o (found .place) ≡ turnIn h row o a = ap (distance h row o) (sym (digits-mod x place)) ∙ distance-turn H row o a in
+          let far : distance h row o (found .place) ≡ turnIn h row o a = ap (distance h row o) (sym (digits-mod x place)) ∙ distance-turn H row o a most in
           subst (Says h n m row o x) is (record {
             block = record { huge = it .huge; aligned = it .aligned; ends = it .ends };
             counted = no-mark H k;
             clear = it .clear;
             first = λ f b less. not-eq-not {b = false} .0 (λ e.
                 let v = placed-within f o most (b .aligned) in
-                w .least (f % 2 ^ h) (v .aligned) (v .ends) (subst₂ (λ (p q : ℕ). p < q) (sym (distance-turn H row o f)) (sym far) less) (part-clear f b e));
+                w .least (f % 2 ^ h) (v .aligned) (v .ends) (subst₂ (λ (p q : ℕ). p < q) (sym (distance-turn H row o f most)) (sym far) less) (part-clear f b e));
           })
 
       -- where none is found, the visit passes

@@ -1,7 +1,7 @@
 -- What calls make of states. Demand 2: on a consistent state, what each call answers in terms of free and held frames, and which frames it turns.
 pub use Rattle.base.specs.Ring.{stepsTo}
 use Rattle.bitfield_rules.specs.Calls.{answered}
-use Rattle.rules.specs.Words.{_≡_, _⊎_, true, false, not, _&&_, _||_, ℕ, _+_, _*_, _/_, _%_, _^_, _≤_, _<_, eqb, leb, ltb, pick, all, count, out, unless, Huge, rowsPer, mark, hugeOf, treeOf, topOrder, ceil, treesNeeded, entriesNeeded, groupOf, Mem, blockRefusal, startRefusal, frameRefusal, got, statistics, entryOf, entriesAre, fault, recovered}
+use Rattle.rules.specs.Words.{_≡_, _⊎_, true, false, not, _&&_, _||_, ℕ, _+_, _*_, _/_, _%_, _^_, _≤_, _<_, eqb, ltb, pick, all, count, out, unless, Huge, rowsPer, mark, hugeOf, treeOf, topOrder, blockAt, ceil, treesNeeded, entriesNeeded, groupOf, Mem, blockRefusal, startRefusal, frameRefusal, got, statistics, entryOf, entriesAre, fault, recovered}
 use Rattle.rules.specs.Call.{Call, left}
 use Rattle.rules.specs.Calls.{get, getAt, put, isFree, stats, statsAt, freeAll, reserveAll, audit, recover}
 use Rattle.rules.specs.Audit.{reason}
@@ -35,9 +35,9 @@ Consistency = (h n t : ℕ) (m : Mem) → Huge h → Fits m → States h n t m
 abbrev pub round : ℕ → ℕ → ℕ → ℕ → ℕ → ℕ
 round h t row o f = stepsTo t (row / rowsPer h / groupOf h o * groupOf h o) (hugeOf h f)
 
--- .. the block with the lesser number comes first; in a huge frame "orders 0 to 6: from (start row mod 8), wrapping", "7 and 8: from row 0"
+-- .. the block with the lesser number comes first; in a huge frame "from (start row mod 8), wrapping", above order 6 "from the group holding" it: from the place of the block that holds the start row
 abbrev pub rank : ℕ → ℕ → ℕ → ℕ → ℕ → ℕ
-rank h t row o f = round h t row o f * 2 ^ h + stepsTo (2 ^ h) (pick (leb o 6) (row * 64) 0) f
+rank h t row o f = round h t row o f * 2 ^ h + stepsTo (2 ^ h) (blockAt o (row * 64)) f
 
 -- a block that a get may take: aligned, in the start row's tree, ending at or before N
 pub record Candidate (h n t row o f : ℕ) : Type 0 where
@@ -99,3 +99,8 @@ Demand2In = (h n t : ℕ) (m : Mem) (y : ℕ) → Huge h → ConsistentIn h n t 
 
 abbrev pub Demand2 : Type 0
 Demand2 = (h n t : ℕ) (m : Mem) → Huge h → Consistent h n t m → Exact h n t m
+
+-- document 02, W-206, what "near" comes to: at every order, where the block that holds the start row is free, a get takes it, at its first probe
+abbrev pub OwnBlockFirst : Type 0
+OwnBlockFirst = (h n t : ℕ) (m : Mem) (row o : ℕ) → Huge h → ConsistentIn h n t m (treeOf h t (row * 64)) → startRefusal h n t m row o ≡ 0
+    → all (free h n m) (2 ^ o) (blockAt o (row * 64)) ≡ true → get h n t m row o .answer ≡ got 0 (blockAt o (row * 64)) 1

@@ -48,6 +48,10 @@ topOrder h t = h + treeLog t
 abbrev pub aligned : ℕ → ℕ → Bool
 aligned f o = eqb (f % 2 ^ o) 0
 
+-- the first frame of the aligned block of order o that holds frame f
+abbrev pub blockAt : ℕ → ℕ → ℕ
+blockAt o f = f / 2 ^ o * 2 ^ o
+
 -- a / b, rounded up
 abbrev pub ceil : ℕ → ℕ → ℕ
 ceil a b = (a + (b - 1)) / b

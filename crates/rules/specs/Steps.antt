@@ -1,5 +1,5 @@
 -- Past checks 1 to 6, on any memory, consistent or damaged: when a call is refused with 7, when with 8, and what it takes or gives back otherwise, in bits and entries.
-use Rattle.rules.specs.Words.{_≡_, Bool, true, false, not, _&&_, _||_, ℕ, _+_, _-_, _*_, _/_, _%_, _^_, eqb, leb, ltb, pick, first, all, unless, Huge, rowsPer, bitIs, blockIs, mark, hugeOf, treeOf, groupOf, entriesNeeded, Mem, entryOf, freeOf, entriesAre, blockRefusal, startRefusal, got, recovered}
+use Rattle.rules.specs.Words.{_≡_, Bool, true, false, not, _&&_, _||_, ℕ, _+_, _-_, _*_, _/_, _%_, _^_, eqb, leb, ltb, pick, first, all, unless, Huge, rowsPer, bitIs, blockIs, mark, hugeOf, treeOf, blockAt, groupOf, entriesNeeded, Mem, entryOf, freeOf, entriesAre, blockRefusal, startRefusal, got, recovered}
 use Rattle.rules.specs.declared.Got.{Got}
 use Rattle.rules.specs.Call.{RowCall, BlockCall, AllCall, Call}
 use Rattle.rules.specs.Calls.{get, getAt, put, recover}
@@ -7,9 +7,9 @@ use Rattle.rules.specs.Audit.{reason}
 use Rattle.rules.specs.Consistent.{inBlock}
 use Rattle.rules.specs.Why.{sound}
 
--- the place in huge frame x that a get looks at after k others: "orders 0 to 6: from (start row mod 8), wrapping", "7 and 8: from row 0"
+-- the place in huge frame x that a get looks at after k others: "from (start row mod 8), wrapping", above order 6 "from the group holding" it
 abbrev pub place : ℕ → ℕ → ℕ → ℕ → ℕ → ℕ
-place h row o x k = x * 2 ^ h + (pick (leb o 6) (row * 64) 0 + k * 2 ^ o) % 2 ^ h
+place h row o x k = x * 2 ^ h + (blockAt o (row * 64) + k * 2 ^ o) % 2 ^ h
 
 -- .. and how many it looks at before one with all bits clear: all 2 ^ (h - o) of them, where there is none
 abbrev pub missed : ℕ → Mem → ℕ → ℕ → ℕ → ℕ

@@ -10,7 +10,7 @@ pub use Rattle.base.specs.Walk.{pick, first, all, count}
 pub use Rattle.base.specs.Code.{Out, out, unless, orElse}
 pub use Rattle.base.specs.Size.{Huge, rowsPer, hugeOrder}
 pub use Rattle.base.specs.Bits.{bitIs, blockIs}
-pub use Rattle.rules.specs.Numbers.{mark, hugeOf, treeOf, isTree, topOrder, ceil, rowsNeeded, treesNeeded, entriesNeeded, groupOf}
+pub use Rattle.rules.specs.Numbers.{mark, hugeOf, treeOf, isTree, topOrder, blockAt, ceil, rowsNeeded, treesNeeded, entriesNeeded, groupOf}
 pub use Rattle.rules.specs.Refusals.{Sized, sizesRefusal, blockRefusal, startRefusal, frameRefusal}
 pub use Rattle.rules.specs.State.{Mem, mem, entryOf, freeOf, clearOf, entriesAre}
 pub use Rattle.rules.specs.Get.{got}

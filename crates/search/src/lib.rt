@@ -43,22 +43,24 @@ fn find_by_order(h: usize, rows: &[u64], start: usize, order: usize) -> Placed
     }
 }
 
-// The first clear group of rows, from row 0 on.
+// The first clear group of rows from the one that holds row start on. One mask rounds down to a group's first row and wraps.
 fn find_group(h: usize, rows: &[u64], start: usize, order: usize) -> Placed
-    requires { ⌜ (Huge h) × (length (now rows) ≡ rowsPer h) × (6 < order) × (order ≤ h) ⌝ }
+    requires { ⌜ (Huge h) × (length (now rows) ≡ rowsPer h) × (start < rowsPer h) × (6 < order) × (order ≤ h) ⌝ }
     ensures { λ r. ⌜ FindsZeros h (now (rows .entry)) start order r ⌝ }
 {
-    let groups = base::size(h - order);
-    let mut j = 0;
-    while j < groups {
-        let place = j << order;
+    let count = base::size(h - 6);
+    let group = base::size(order - 6);
+    let end = start + count;
+    let mut row = start;
+    while row < end {
+        let place = (row & (count - group)) * 64;
         if bits::block_is(rows, place, order, false) {
             return Placed {
                 code: 0,
                 place: place,
             };
         }
-        j += 1;
+        row += group;
     }
     Placed { code: 7, place: 0 }
 }
@@ -74,10 +76,11 @@ pub fn first_zeros(h: usize, rows: &[u64], start_row: usize, order: usize) -> Pl
             place: 0,
         };
     }
+    let start = start_row & (base::size(h - 6) - 1);
     if order <= 6 {
-        return find_by_order(h, rows, start_row & (base::size(h - 6) - 1), order);
+        return find_by_order(h, rows, start, order);
     }
-    find_group(h, rows, start_row, order)
+    find_group(h, rows, start, order)
 }
 
 pub fn set_first_zeros(h: usize, rows: &mut [u64], start_row: usize, order: usize) -> Placed

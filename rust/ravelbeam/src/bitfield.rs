@@ -96,7 +96,8 @@ pub fn is_zero(rows: &Rows, place: FrameId, order: usize) -> Result<bool, Error>
 /// Finds the first free block of 2^`order` frames, and gives its place.
 ///
 /// Orders 0 to 6: the rows from `start_row` (modulo 8) on, wrapping, and in a row the lowest place. Orders 7
-/// to 9: groups of rows from row 0, wherever the start row is.
+/// and 8: groups of 2 or 4 rows, from the one that holds that row on, wrapping. At order 9 all rows are one
+/// group.
 ///
 /// # Errors
 ///
@@ -106,6 +107,7 @@ pub fn is_zero(rows: &Rows, place: FrameId, order: usize) -> Result<bool, Error>
 /// use ravelbeam::{FrameId, RowId, bitfield};
 ///
 /// assert_eq!(bitfield::first_zeros(&[0; 8], RowId(3), 0), Ok(FrameId(192)));
+/// assert_eq!(bitfield::first_zeros(&[0; 8], RowId(3), 7), Ok(FrameId(128))); // rows 2 and 3
 /// ```
 pub fn first_zeros(rows: &Rows, start_row: RowId, order: usize) -> Result<FrameId, Error> {
     let (code, place) = ffi::first_zeros(rows, start_row, order);

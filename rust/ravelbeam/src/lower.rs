@@ -161,8 +161,13 @@ impl<'a> Lower<'a> {
     }
 
     /// Takes a block of 2^`order` frames: the one at `frame`, or without a frame the first free one of the
-    /// tree of `start_row`, searched from that row on (document 01 has the order). A block of order 9 or more
-    /// is held whole, by the mark. With a frame the start row is not looked at.
+    /// tree of `start_row`. A block of order 9 or more is held whole, by the mark. With a frame the start row
+    /// is not looked at.
+    ///
+    /// The search goes through the tree's huge frames, from that of `start_row` on, wrapping. Orders 0 to 6:
+    /// in each the rows from `start_row` modulo 8 on, wrapping, and in a row the lowest block. Orders 7 and
+    /// 8: in each the blocks from the one that holds that row on, wrapping. From order 9 up: the tree's
+    /// blocks from that of `start_row` on, wrapping.
     ///
     /// # Errors
     ///
@@ -176,6 +181,7 @@ impl<'a> Lower<'a> {
     /// let mut state = State::<32, 4>::new();
     /// let mut lower = state.start(2048, 4, Init::FreeAll)?;
     /// assert_eq!(lower.get(RowId(3), 0, None), Ok(Got { frame: FrameId(192), probes: 1 }));
+    /// assert_eq!(lower.get(RowId(5), 7, None), Ok(Got { frame: FrameId(256), probes: 1 })); // rows 4 and 5
     /// assert_eq!(lower.get(RowId(3), 9, None), Ok(Got { frame: FrameId(512), probes: 2 }));
     /// assert_eq!(lower.get(RowId(0), 4, Some(FrameId(1024)))?.frame, FrameId(1024));
     /// let refused = lower.get(RowId(0), 11, None);

@@ -50,8 +50,9 @@ fn searches_begin_at_the_start_row() {
     assert_eq!(set_first_zeros(&mut rows, RowId(15), 1), Ok(FrameId(7 * 64 + 2)));
     assert_eq!(first_zeros(&rows, RowId(15), 6), Ok(FrameId(0)));
     assert_eq!(first_zeros(&rows, RowId(1), 6), Ok(FrameId(128)));
-    // From order 7 up the groups are visited from row 0.
-    assert_eq!(first_zeros(&rows, RowId(5), 7), Ok(FrameId(128)));
+    // Order 7 begins with rows 4 and 5; from rows 6 and 7 on it wraps, and passes rows 0 and 1 too.
+    assert_eq!(first_zeros(&rows, RowId(5), 7), Ok(FrameId(256)));
+    assert_eq!(first_zeros(&rows, RowId(6), 7), Ok(FrameId(128)));
     assert_eq!(first_zeros(&rows, RowId(5), 8), Err(Error::Memory));
     assert_eq!(first_zeros(&[0; 8], RowId(5), 9), Ok(FrameId(0)));
     assert_eq!(rows, [0, u64::MAX, 0, 0, 0, 0, 0, 13]);

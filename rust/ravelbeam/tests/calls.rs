@@ -143,15 +143,16 @@ fn gets_and_their_probes() {
     assert_eq!(lower.get(RowId(3), 0, None), got(192, 1));
     // From row 13 on: huge frame 1 has nothing, and in the next one it goes on from row 13 mod 8.
     assert_eq!(lower.get(RowId(13), 0, None), got(1024 + 5 * 64, 2));
-    // Order 7 begins at row 0, wherever the start row is.
-    assert_eq!(lower.get(RowId(31), 7, None), got(1536, 1));
+    // Order 7 begins with the block of row 31 mod 8. So does order 8, finds half of that held, and wraps.
+    assert_eq!(lower.get(RowId(31), 7, None), got(1536 + 384, 1));
+    assert_eq!(lower.get(RowId(31), 8, None), got(1536, 1));
     // With a frame the start row is not looked at.
     assert_eq!(lower.get(RowId(usize::MAX), 2, Some(FrameId(196))), got(196, 1));
     assert_eq!(lower.get(RowId(0), 2, Some(FrameId(192))), refused(Error::Memory, 1));
     assert_eq!(lower.get(RowId(0), 9, Some(FrameId(512))), refused(Error::Memory, 1));
     assert_eq!(lower.get(RowId(0), 9, None), refused(Error::Memory, 4));
     assert_eq!(lower.get(RowId(0), 10, None), refused(Error::Memory, 2));
-    assert_eq!(lower.entries(), [507, MARK, 511, 384]);
+    assert_eq!(lower.entries(), [507, MARK, 511, 128]);
     assert_eq!(lower.audit(), None);
 }
 

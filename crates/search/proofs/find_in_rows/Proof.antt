@@ -5,11 +5,11 @@ use native.Mathlib.Nat.{mod-lt}
 use native.Mathlib.Omega.{arith}
 use borrow.Author.Needs.{needs}
 use lib.Bits.{bitAnd}
-use lib.Pow.{pow-mono, pow-pos}
+use lib.Pow.{pow-pos}
 use lib.ListN.{getD}
 use Rattle.base.specs.Size.{rowsPer}
 use Rattle.base.specs.Bits.{bitsAt}
-use Rattle.base.proofs.Sizes.{mask-mod}
+use Rattle.base.proofs.Sizes.{rows-fit, mask-mod}
 use Rattle.row.specs.Row.{lowest}
 use Rattle.row.proofs.Laws.{lowest-le, lowest-clear, lowest-least}
 use Rattle.bitfield_rules.proofs.Search.{NoneOf, answer-missed, all-places, row-passed, row-found}
@@ -24,12 +24,6 @@ abbrev μ-loop : tie.MeasureT-loop
 
 loop-holds : tie.Need-loop-holds Inv-loop μ-loop
 loop-holds c = (omega arith, λ j l. absurd (omega arith))
-
--- a huge frame has 32 rows at most
-rows-few : (s : tie.Start Inv-loop μ-loop) → rowsPer (s .args .h) ≤ 32
-rows-few s =
-    let l : s .args .h - 6 ≤ 5 = omega (arith, s .pre .0 .high) in
-    omega (arith, pow-mono l)
 
 -- the function's entry, from a turn of its loop, and the turn that asks for a row's lowest place
 abbrev entry : tie.At-loop Inv-loop μ-loop → tie.Start Inv-loop μ-loop
@@ -50,16 +44,16 @@ masked : (a : tie.At-loop Inv-loop μ-loop) → bitAnd (entry a .args .start + a
 masked a = let s = entry a .args in mask-mod (s .start + a .loop .passed) (s .h - 6) (a .before .size .ensures)
 
 mul-lowest-clear : tie.Need-mul-lowest-clear Inv-loop μ-loop
-mul-lowest-clear c = omega (arith, masked (c .before), visit-low (c .before), rows-few (entry (c .before)))
+mul-lowest-clear c = omega (arith, masked (c .before), visit-low (c .before), rows-fit (entry (c .before) .pre .0))
 
 shared-slice-read-lowest-clear : tie.Need-shared-slice-read-lowest-clear Inv-loop μ-loop
 shared-slice-read-lowest-clear c = let a = c .before .before in rw (entry a .pre .1, masked a) (visit-low a)
 
 mul-t15 : tie.Need-mul-t15 Inv-loop μ-loop
-mul-t15 c = let a = turn (c .before) in omega (arith, masked a, visit-low a, rows-few (entry a))
+mul-t15 c = let a = turn (c .before) in omega (arith, masked a, visit-low a, rows-fit (entry a .pre .0))
 
 add-t17 : tie.Need-add-t17 Inv-loop μ-loop
-add-t17 c = let a = turn (c .before) in omega (arith, masked a, visit-low a, rows-few (entry a), c .if1 .taken)
+add-t17 c = let a = turn (c .before) in omega (arith, masked a, visit-low a, rows-fit (entry a .pre .0), c .if1 .taken)
 
 -- what that row has for its lowest place
 place-is : (c : tie.After-lowest-clear Inv-loop μ-loop) → let a = turn c in let s = entry a in
