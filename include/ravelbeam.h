@@ -107,7 +107,8 @@ uint32_t rb_reserve_all(size_t n, size_t t, uint64_t *rows, size_t rows_len, uin
  *
  *   orders 0 to 6   the tree's huge frames from the start row's on, wrapping; in each the rows from
  *                   row % 8 on, wrapping; in a row the lowest block
- *   orders 7, 8     the same huge frames; in each the blocks from that of row % 8 on, wrapping
+ *   orders 7, 8     the same huge frames; in each the blocks from the one that holds row % 8 on,
+ *                   wrapping
  *   from order 9    the tree's blocks from that of the start row on, wrapping
  *
  * *probes is how many huge frames, or from order 9 on blocks, the search came to.
@@ -239,7 +240,7 @@ uint32_t rb_bitfield_is_zero(const uint64_t *rows, size_t rows_len, size_t place
                              uint32_t *yes);
 
 /* *place is the first clear block of an order: in the rows from start_row % 8 on, wrapping, and in a
- * row the lowest; above order 6 of the blocks from that of row start_row % 8 on, wrapping.
+ * row the lowest; above order 6 among the blocks from the one that holds that row on, wrapping.
  * Refused: 3, 4; 7 if there is none. */
 uint32_t rb_bitfield_first_zeros(const uint64_t *rows, size_t rows_len, size_t start_row,
                                  size_t order, size_t *place);
