@@ -1,4 +1,6 @@
 // The answers of `trace` as it prints them, and the calls that only read: those of the lines Q, S, T and A.
+#![tactic(auto)]
+
 ghost use Rattle.std.specs.Prelude.{◌≡◌};
 ghost use Rattle.base.specs.Size.{huge_order};
 ghost use Rattle.rules.specs.State.{mem};

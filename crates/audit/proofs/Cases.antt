@@ -27,15 +27,15 @@ module _ (h n : ℕ) (rs : List ℕ) (x : ℕ) {end : ℕ} (end_is : end ≡ (x 
 -- ---- with a count e: whether the bits past N are set, and the clear bits
 
 module _ (h n : ℕ) (rs : List ℕ) (e x : ℕ) {set : Bool} (set_is : set ≡ block_is true rs n ((x + 1) * 2 ^ h - n)) where
-  pub counted_past : not set ≡ true → 3 ≡ counted_reason h n rs e x
-  counted_past q = rw (sym set_is ∙ not-true set q)
+  pub counted_past : set ≡ false → 3 ≡ counted_reason h n rs e x
+  counted_past q = rw (sym set_is ∙ q)
 
-  module _ {z : ℕ} (All_set : not set ≡ false) (z_is : z ≡ clear_of h rs x) where
+  module _ {z : ℕ} (all_set : set ≡ true) (z_is : z ≡ clear_of h rs x) where
     pub counted_other : (e ≡ z → ⊥) → 4 ≡ counted_reason h n rs e x
-    counted_other differs = rw (sym set_is ∙ not-false set All_set, ne_eqb e (clear_of h rs x) (λ q. differs (q ∙ sym z_is)))
+    counted_other differs = rw (sym set_is ∙ all_set, ne_eqb e (clear_of h rs x) (λ q. differs (q ∙ sym z_is)))
 
     pub counted_right : e ≡ z → 0 ≡ counted_reason h n rs e x
-    counted_right q = rw (sym set_is ∙ not-false set All_set, eq-eqb e (clear_of h rs x) (q ∙ z_is))
+    counted_right q = rw (sym set_is ∙ all_set, eq-eqb e (clear_of h rs x) (q ∙ z_is))
 
 -- ---- any huge frame: its first frame
 

@@ -1,4 +1,6 @@
 // The audit: what is wrong with a huge frame's entry and bits, and the first huge frame that is faulty. It only reads.
+#![tactic(auto)]
+
 ghost use Rattle.std.specs.Prelude.{◌≡◌, true, ℕ, ◌+◌, ◌-◌, ◌*◌, ◌^◌, ◌<◌, ◌≤◌, length};
 ghost use Rattle.base.specs.Bits.{block_is};
 ghost use Rattle.base.specs.Size.{Huge, rows_per};

@@ -1,4 +1,6 @@
 // What every level shares: the huge order and powers of two. Its specs/ and proofs/ hold the walks over indices and the frames' bits.
+#![tactic(auto)]
+
 ghost use Rattle.std.specs.Prelude.{◌≡◌, ◌^◌, ◌<◌};
 
 // The huge order of pages of 4 KiB: a huge frame is 2^9 frames.

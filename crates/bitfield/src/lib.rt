@@ -1,4 +1,6 @@
 // The bitfield of one huge frame: document 01's calls on its eight rows. Each takes any numbers and any contents of the rows.
+#![tactic(auto)]
+
 ghost use Rattle.base.specs.Size.{huge_order};
 ghost use Rattle.bitfield_rules.specs.Ensured.{Sets, Toggles, TellsZero, FindsZeros, SetsFirstZeros, Fills, CountsZeros};
 

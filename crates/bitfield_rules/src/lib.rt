@@ -1,4 +1,5 @@
 // Document 01's rules of the bitfield: the types of its answers here, its definitions in specs/, their laws in proofs/. There is no code.
+#![tactic(auto)]
 
 // The answer of a search: document 01's number, and the place where it is 0.
 #[derive(Drop)]

@@ -1,5 +1,7 @@
 // Runs of bits over any lent rows: are they alike, find the first of a kind, store them, count the clear ones. The bitfield
 // and the lower level share these.
+#![tactic(auto)]
+
 ghost use Rattle.std.specs.Prelude.{◌≡◌, true, false, ◌+◌, ◌-◌, ◌*◌, ◌^◌, ◌<◌, ◌≤◌, min, eqb, length, get_or, replicate};
 ghost use Rattle.base.specs.Walk.{pick, first, all, count};
 ghost use Rattle.base.specs.Bits.{bits_at, solid, bit_is, block_is, overlay, with_bits};

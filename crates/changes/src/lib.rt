@@ -1,4 +1,6 @@
 // The lines of `trace` that write: the calls of G, P, F and R, and a start, I.
+#![tactic(auto)]
+
 ghost use Rattle.std.specs.Prelude.{◌≡◌};
 ghost use Rattle.base.specs.Code.{out};
 ghost use Rattle.base.specs.Size.{huge_order};

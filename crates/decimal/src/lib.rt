@@ -1,4 +1,6 @@
 // Numbers as text: decimal digits, the most significant first, no leading zeros.
+#![tactic(auto)]
+
 ghost use Rattle.std.specs.Prelude.{◌≡◌, false, ◌+◌, ◌-◌, ◌*◌, ◌^◌, ◌≤◌, ◌<◌, ltb, length};
 ghost use Rattle.std.proofs.Math.Seq.{paste};
 ghost use Rattle.base.specs.Code.{out};

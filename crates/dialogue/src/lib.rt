@@ -1,5 +1,7 @@
 // A dialogue with `trace`: lines of calls go in as bytes, in parts of any size, and an answer comes out for each line.
 // Nothing is read or written here: input and output are lent.
+#![tactic(auto)]
+
 ghost use Rattle.std.specs.Prelude.{◌≡◌, ◌++◌, ◌+◌, ◌≤◌, min, ◌&&◌, ltb, leb, length, take};
 ghost use Rattle.base.specs.Code.{out};
 ghost use Rattle.base.specs.Size.{huge_order};

@@ -1,4 +1,6 @@
 // Entries: the count of one lowered and raised; runs of them: are they alike, make them alike, sum what they count.
+#![tactic(auto)]
+
 ghost use Rattle.std.specs.Prelude.{◌≡◌, ◌+◌, ◌-◌, ◌^◌, ◌≤◌, ◌<◌, length, set};
 ghost use Rattle.base.specs.Walk.{written};
 ghost use Rattle.base.specs.Size.{Huge};

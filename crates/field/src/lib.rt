@@ -1,4 +1,6 @@
 // The rows of one huge frame, of huge order h: stores, tests and counts of their bits.
+#![tactic(auto)]
+
 ghost use Rattle.std.specs.Prelude.{◌≡◌};
 ghost use Rattle.base.specs.Code.{out};
 ghost use Rattle.base.specs.Size.{Huge};

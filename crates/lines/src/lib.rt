@@ -1,4 +1,6 @@
 // The line language of `trace`: what a line asks for, and an answer written as a line.
+#![tactic(auto)]
+
 ghost use Rattle.std.specs.Prelude.{◌≡◌, ◌+◌, ◌≤◌, ◌<◌, length};
 ghost use Rattle.base.specs.Code.{out};
 ghost use Rattle.lines.specs.Read.{line_alone, line_start, line_two, field_at, three_of, two_of, read_line, field, fields_text};

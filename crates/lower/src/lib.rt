@@ -1,5 +1,7 @@
 // The lower level: document 01's calls on N frames in trees of T huge frames, over lent rows and entries. Each takes any
 // numbers and any contents, and a call that is refused writes nothing.
+#![tactic(auto)]
+
 ghost use Rattle.base.specs.Size.{huge_order};
 ghost use Rattle.rules.specs.State.{mem};
 ghost use Rattle.rules.specs.Ensured.{Gets, GetsAt, Puts, AsksFree, TellsStats, TellsStatsAt, FreesAll, ReservesAll};

@@ -1,4 +1,6 @@
 // The calls of `lower` over the huge order h, for callers that have it as a value.
+#![tactic(auto)]
+
 ghost use Rattle.base.specs.Size.{Huge};
 ghost use Rattle.rules.specs.State.{mem};
 ghost use Rattle.rules.specs.Ensured.{Gets, GetsAt, Puts, AsksFree, TellsStats, TellsStatsAt, FreesAll, ReservesAll};

@@ -1,4 +1,6 @@
 // The rows of one huge frame, as a part of all that are lent: passed to the bitfield's search, its toggle and its count.
+#![tactic(auto)]
+
 ghost use Rattle.std.specs.Prelude.{◌≡◌, ◌+◌, ◌*◌, ◌/◌, ◌%◌, ◌^◌, ◌<◌, ◌≤◌, length};
 ghost use Rattle.base.specs.Code.{out};
 ghost use Rattle.base.specs.Size.{Huge, rows_per};

@@ -1,5 +1,7 @@
 // What a get would answer now. The code rests on a theorem: from a consistent state a get, and a put of what it took, leave no
 // trace.
+#![tactic(auto)]
+
 ghost use Rattle.rules.specs.State.{mem};
 ghost use Rattle.peek.specs.Peek.{Peeked};
 

@@ -1,4 +1,6 @@
 // Recovery: counts that differ from the clear bits are replaced, and bits under a mark are cleared.
+#![tactic(auto)]
+
 ghost use Rattle.std.specs.Prelude.{◌≡◌, not, ◌+◌, ◌*◌, ◌^◌, ◌≤◌, ◌<◌, eqb, length};
 ghost use Rattle.base.specs.Walk.{pick};
 ghost use Rattle.base.specs.Code.{out};

@@ -1,4 +1,6 @@
 // Refusals 1 to 6 of document 01, in their order, on natural numbers: no sum or product of any two numbers wraps.
+#![tactic(auto)]
+
 ghost use Rattle.std.specs.Prelude.{◌≡◌, true, ◌<◌};
 ghost use Rattle.base.specs.Code.{or_else};
 ghost use Rattle.base.specs.Size.{Huge};

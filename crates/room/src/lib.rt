@@ -1,4 +1,6 @@
 // The room of a tree: how many blocks of each order its entries promise.
+#![tactic(auto)]
+
 ghost use Rattle.std.specs.Prelude.{◌≡◌, true, ℕ, ◌+◌, ◌*◌, ◌^◌, ◌≤◌, ◌<◌, length, replicate};
 ghost use Rattle.base.specs.Walk.{count};
 ghost use Rattle.base.specs.Size.{Huge};

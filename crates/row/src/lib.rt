@@ -1,4 +1,6 @@
 // The search of one row: 64 frames, a set bit is a held frame.
+#![tactic(auto)]
+
 ghost use Rattle.std.specs.Prelude.{◌≡◌, ℕ, ◌+◌, ◌-◌, ◌*◌, ◌^◌, ◌<◌, ◌≤◌};
 ghost use Rattle.row.specs.Row.{lowest, units};
 ghost use Rattle.row.specs.Ensured.{FindsInRow};

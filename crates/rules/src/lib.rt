@@ -1,5 +1,6 @@
 // Document 01's rules of the lower level: the types of its answers here, definitions and statements in specs/, in the document's
 // order, and their laws in proofs/. There is no code.
+#![tactic(auto)]
 
 // What a get answers: document 01's number, the frame where it is 0, and the entries or groups visited.
 #[derive(Drop)]

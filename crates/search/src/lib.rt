@@ -1,4 +1,6 @@
 // The search of one huge frame, of huge order h: the first clear block in the stated order.
+#![tactic(auto)]
+
 ghost use Rattle.std.specs.Prelude.{◌≡◌, ◌<◌, ◌≤◌, length};
 ghost use Rattle.base.specs.Size.{Huge, rows_per};
 ghost use Rattle.bitfield_rules.specs.Ensured.{FindsZeros, SetsFirstZeros};

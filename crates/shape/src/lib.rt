@@ -1,5 +1,7 @@
 // The numbers of document 01: sizes that follow from the huge order h and the tree size T, and conversions between
 // frames, rows, huge frames and trees. T enters them by its logarithm k, so that none of them divides.
+#![tactic(auto)]
+
 ghost use Rattle.std.specs.Prelude.{◌≡◌, true, ◌*◌, ◌/◌, ◌%◌, ◌^◌, ◌<◌, ◌≤◌};
 ghost use Rattle.base.specs.Size.{Huge, rows_per};
 ghost use Rattle.rules.specs.Numbers.{row_of, bit_of, huge_of, tree_at, tree_log, is_tree, top_order, aligned, rows_needed, entries_needed};

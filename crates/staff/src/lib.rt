@@ -1,5 +1,7 @@
 // What staff call: is the state sound, put counts right, why was a request turned down, how much room has a tree, and its
 // entries. Each call takes any numbers and any contents, and a call that is refused writes nothing.
+#![tactic(auto)]
+
 ghost use Rattle.base.specs.Size.{huge_order};
 ghost use Rattle.rules.specs.State.{mem};
 ghost use Rattle.rules.specs.Ensured.{FindsFault, TellsWhyGet, TellsWhyGetAt, TellsWhyPut, TellsRoom, LendsRun, TellsRunCode, Recovers};

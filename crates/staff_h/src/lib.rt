@@ -1,4 +1,6 @@
 // The calls of `staff` over the huge order h, for callers that have it as a value.
+#![tactic(auto)]
+
 ghost use Rattle.std.specs.Prelude.{◌≡◌, replicate};
 ghost use Rattle.base.specs.Size.{Huge};
 ghost use Rattle.rules.specs.State.{mem};

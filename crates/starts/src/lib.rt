@@ -1,4 +1,6 @@
 // The two starts: every needed row and entry is written, and nothing beyond them.
+#![tactic(auto)]
+
 ghost use Rattle.std.specs.Prelude.{◌≡◌, ℕ, ◌≤◌, length};
 ghost use Rattle.base.specs.Walk.{pick, written};
 ghost use Rattle.base.specs.Size.{Huge};

@@ -1,4 +1,6 @@
 // Statistics over the entries: of all trees, of one tree, of one huge frame, and of one frame.
+#![tactic(auto)]
+
 ghost use Rattle.std.specs.Prelude.{◌≡◌, true, false, List, ℕ, ◌+◌, ◌*◌, ◌≤◌, ◌<◌, eqb, length};
 ghost use Rattle.base.specs.Walk.{count};
 ghost use Rattle.base.specs.Size.{Huge};

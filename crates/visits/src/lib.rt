@@ -1,5 +1,7 @@
 // Get without a frame below the huge order h: the entries of a tree are visited one by one. Search first, write afterwards, so that a refusal
 // writes nothing.
+#![tactic(auto)]
+
 ghost use Rattle.std.specs.Prelude.{◌≡◌, ◌+◌, ◌-◌, ◌*◌, ◌/◌, ◌^◌, ◌<◌, ◌≤◌, true, length, nat_le};
 ghost use Rattle.base.specs.Walk.{first};
 ghost use Rattle.base.specs.Code.{out};

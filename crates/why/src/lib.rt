@@ -1,5 +1,7 @@
 // Why a get or a put is turned down: document 02's reasons, of a request that passed its checks and a tree that is consistent.
 // Whether a tree is consistent. All of it only reads.
+#![tactic(auto)]
+
 ghost use Rattle.std.specs.Prelude.{◌≡◌, ℕ, ◌+◌, ◌*◌, ◌/◌, ◌^◌, ◌≤◌, ◌<◌, length};
 ghost use Rattle.base.specs.Walk.{first};
 ghost use Rattle.base.specs.Size.{Huge, rows_per};

@@ -6,23 +6,19 @@ use Rattle.audit.proofs.Cases.{marked_partial, marked_torn, marked_clear}
 use Rattle.audit.proofs.marked_reason.Statement.{statement}
 use Rattle.audit.proofs.marked_reason.Tie as tie
 
-huge_frame_requires : tie.Need-huge-frame-requires
-huge_frame_requires c κs = (c.before.requires.0, frames_word c.before.requires.0 (omega arith))
+huge_frame_requires : tie.Need-huge_frame-requires
+huge_frame_requires c κs = (c.requires.0, frames_word c.requires.0 (omega arith))
 
-returns : tie.Need-returns
-returns c = marked_partial _ _ _ _ c.before.huge-frame.ensures c.if1.true
+returns : tie.Need-returns-then-n-huge_frame
+returns c = marked_partial _ _ _ _ c.huge_frame.ensures c.if-n-huge_frame.true
 
-returns_2 : tie.Need-returns-2
+returns_2 : tie.Need-returns-then-zeros-size
 returns_2 c =
-    let z = c.before.before in
-    let e = z.before in
-    marked_torn _ _ _ _ e.before.huge-frame.ensures e.if1.false z.zeros.ensures c.before.size.ensures c.if2.true
+    marked_torn _ _ _ _ c.huge_frame.ensures c.if-n-huge_frame.false c.zeros.ensures c.size.ensures c.if-zeros-size.true
 
-returns_3 : tie.Need-returns-3
+returns_3 : tie.Need-returns
 returns_3 c =
-    let z = c.before.before in
-    let e = z.before in
-    marked_clear _ _ _ _ e.before.huge-frame.ensures e.if1.false z.zeros.ensures c.before.size.ensures c.if2.false
+    marked_clear _ _ _ _ c.huge_frame.ensures c.if-n-huge_frame.false c.zeros.ensures c.size.ensures c.if-zeros-size.false
 
 pub marked_reason_spec : {M : Type 1} → statement M
 marked_reason_spec =

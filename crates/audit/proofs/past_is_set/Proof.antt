@@ -7,26 +7,22 @@ use Rattle.rules.proofs.ClearBits.{none_past, past_asked, past_by_rows}
 use Rattle.audit.proofs.past_is_set.Statement.{statement}
 use Rattle.audit.proofs.past_is_set.Tie as tie
 
-huge_frame_requires : tie.Need-huge-frame-requires
-huge_frame_requires c κs = (c.before.requires.0, frames_word c.before.requires.0 (omega arith))
+huge_frame_requires : tie.Need-huge_frame-requires
+huge_frame_requires c κs = (c.requires.0, frames_word c.requires.0 (omega arith))
 
-returns : tie.Need-returns
-returns c = sym (none_past _ _ _ (rw c.before.huge-frame.ensures at c.if1.true))
+returns : tie.Need-returns-then-huge_frame-n
+returns c = sym (none_past _ _ _ (rw c.huge_frame.ensures at c.if-huge_frame-n.true))
 
-rest_is_set_requires : tie.Need-rest-is-set-requires
+rest_is_set_requires : tie.Need-rest_is_set-requires
 rest_is_set_requires c κs =
-    let e = c.before.before in
-    let s = e.before.before.before in
-    past_asked s.requires.0 s.args.rows.now s.args.n s.args.x _ s.requires.2 c.before.huge-row.ensures s.requires.1
-    (rw e.before.huge-frame.ensures at e.if1.false)
+    past_asked c.requires.0 c.args.rows.now c.args.n c.args.x _ c.requires.2 c.huge_row-end.ensures c.requires.1
+    (rw c.huge_frame.ensures at c.if-huge_frame-n.false)
 
-returns_2 : tie.Need-returns-2
+returns_2 : tie.Need-returns
 returns_2 c =
-    let e = c.before.before.before in
-    let s = e.before.before.before in
-    c.rest-is-set.ensures
-    ∙ past_by_rows s.requires.0 s.args.rows.now s.args.n s.args.x _ s.requires.2 c.before.before.huge-row.ensures
-    (rw e.before.huge-frame.ensures at e.if1.false)
+    c.rest_is_set.ensures
+    ∙ past_by_rows c.requires.0 c.args.rows.now c.args.n c.args.x _ c.requires.2 c.huge_row-end.ensures
+    (rw c.huge_frame.ensures at c.if-huge_frame-n.false)
 
 pub past_is_set_spec : {M : Type 1} → statement M
 past_is_set_spec =

@@ -11,39 +11,36 @@ use Rattle.audit.proofs.reason.Statement.{statement}
 use Rattle.audit.proofs.reason.Tie as tie
 
 -- what is asked of a present huge frame's routines
-asked : (c : tie.Else1) → let a = c.before.before.before.before.before.args in (Huge a.h) × (a.x < 1048576) × ((a.x + 1) * rows_per a.h ≤ length a.rows.now)
+asked : (c : tie.Else-n-huge_frame) → let a = c.args in (Huge a.h) × (a.x < 1048576) × ((a.x + 1) * rows_per a.h ≤ length a.rows.now)
 asked c =
-    let s = c.before.before.before.before.before in
-    let p = s.requires in
-    (p.0, entry_low p.1.1.0 p.0 p.1.1.1, present_rows p.0 p.1.1.0 s.args.x (rw c.before.huge-frame.ensures at c.if1.false))
+    let p = c.requires in
+    (p.0, entry_low p.1.1.0 p.0 p.1.1.1, present_rows p.0 p.1.1.0 c.args.x (rw c.huge_frame.ensures at c.if-n-huge_frame.false))
 
-huge_frame_requires : tie.Need-huge-frame-requires
+huge_frame_requires : tie.Need-huge_frame-requires
 huge_frame_requires c κs =
-    let p = c.before.before.before.requires in
+    let p = c.requires in
     let low = entry_low p.1.1.0 p.0 p.1.1.1 in
     (p.0, frames_word p.0 (omega arith))
 
-returns : tie.Need-returns
-returns c = let t = c.before in absent_other _ _ _ _ t.before.huge-frame.ensures t.if1.true c.if2.true
+returns : tie.Need-returns-then-entry-ne0
+returns c = absent_other _ _ _ _ c.huge_frame.ensures c.if-n-huge_frame.true c.if-entry-ne0.true
 
-returns_2 : tie.Need-returns-2
-returns_2 c = let t = c.before in absent_right _ _ _ _ t.before.huge-frame.ensures t.if1.true c.if2.false
+returns_2 : tie.Need-returns-then-n-huge_frame
+returns_2 c = absent_right _ _ _ _ c.huge_frame.ensures c.if-n-huge_frame.true c.if-entry-ne0.false
 
-marked_reason_requires : tie.Need-marked-reason-requires
+marked_reason_requires : tie.Need-marked_reason-requires
 marked_reason_requires c κs = asked c.before
 
-returns_3 : tie.Need-returns-3
+returns_3 : tie.Need-returns-then-entry
 returns_3 c =
-    let e = c.before.before in
-    present_marked _ _ _ _ e.before.huge-frame.ensures e.if1.false c.before.if3.true c.marked-reason.ensures
+    present_marked _ _ _ _ c.huge_frame.ensures c.if-n-huge_frame.false c.if-entry.true c.marked_reason.ensures
 
-counted_reason_requires : tie.Need-counted-reason-requires
+counted_reason_requires : tie.Need-counted_reason-requires
 counted_reason_requires c κs = asked c.before
 
-returns_4 : tie.Need-returns-4
+returns_4 : tie.Need-returns
 returns_4 c =
-    let e = c.before.before in
-    present_counted _ _ _ _ e.before.huge-frame.ensures e.if1.false c.before.if3.false c.counted-reason.ensures
+    present_counted _ _ _ _ c.huge_frame.ensures c.if-n-huge_frame.false c.if-entry.false c.counted_reason.ensures
 
 pub reason_spec : {M : Type 1} → statement M
 reason_spec =

@@ -10,46 +10,46 @@ use Rattle.bits.proofs.block_is.Statement.{statement}
 use Rattle.bits.proofs.block_is.Tie as tie
 
 -- the function's entry, from a block within a row, and from one of rows
-abbrev entry : tie.Then1 → tie.Start
+abbrev entry : tie.Then-order-le6 → tie.Start
 entry c = c.before.before
 
-abbrev entry_rows : tie.Else1 → tie.Start
+abbrev entry_rows : tie.Else-order-le6 → tie.Start
 entry_rows c = c.before.before
 
-block_mask_requires : tie.Need-block-mask-requires
-block_mask_requires c κs = let s = entry c.before in rw c.size.ensures (pow_pos s.args.order, row_end s.pre c.before.if1.true)
+block_mask_requires : tie.Need-block_mask-mask-requires
+block_mask_requires c κs = let s = entry c.before in rw c.size.ensures (pow_pos s.args.order, row_end s.requires c.before.if-order-le6.true)
 
-shared_slice_read_row : tie.Need-shared-slice-read-row
+shared_slice_read_row : tie.Need-bounds-rows-i
 shared_slice_read_row c = row_inside (entry c.before.before.before).requires
 
-returns : tie.Need-returns
+returns : tie.Need-returns-then-b
 returns c =
     let m = c.before.before in
     let s = m.before.before.before.before in
-    let test = block_by_mask s.requires s.args.b m.before.before.if1.true in
-    rw (c.if2.true, m.block-mask.ensures, m.before.size.ensures) (rw c.if2.true at test)
+    let test = block_by_mask s.requires s.args.b m.before.before.if-order-le6.true in
+    rw (c.if-b.true, m.block_mask-mask.ensures, m.before.size.ensures) (rw c.if-b.true at test)
 
-returns_2 : tie.Need-returns-2
+returns_2 : tie.Need-returns-then-order-le6
 returns_2 c =
     let m = c.before.before in
     let s = m.before.before.before.before in
-    let test = block_by_mask s.requires s.args.b m.before.before.if1.true in
-    rw (c.if2.false, m.block-mask.ensures, m.before.size.ensures) (rw (c.if2.false, zero-mul) at test)
+    let test = block_by_mask s.requires s.args.b m.before.before.if-order-le6.true in
+    rw (c.if-b.false, m.block_mask-mask.ensures, m.before.size.ensures) (rw (c.if-b.false, zero-mul) at test)
 
-add_e : tie.Need-overflow-add-e
-add_e c = omega (arith, rows_end (entry_rows c.before).requires c.before.if1.false)
+add_e : tie.Need-overflow_add-e
+add_e c = omega (arith, rows_end (entry_rows c.before).requires c.before.if-order-le6.false)
 
-part_rows_are_end : tie.Need-slice-bounds-rows-are-end
-part_rows_are_end c = omega (arith, rows_end (entry_rows c.before).requires c.before.if1.false)
+part_rows_are_end : tie.Need-slice_bounds-rows_are-end
+part_rows_are_end c = omega (arith, rows_end (entry_rows c.before).requires c.before.if-order-le6.false)
 
 -- n is the part's length as the code has it: its end less its start
-returns_3 : tie.Need-returns-3
+returns_3 : tie.Need-returns
 returns_3 c =
     let z = c.before.before.before in
     let s = entry_rows z.before in
-    let n : s.args.place / 64 + z.size2.result - s.args.place / 64 ≡ 2 ^ (s.args.order - 6) = add-sub_cancel_left _ _ ∙ z.size2.ensures in
-    rw (n, c.before.solid-row.ensures) at c.rows_are.ensures
-    ∙ block_by_rows s.pre s.args.b z.before.if1.false (λ j. (z.before.before.shared-slice-known.given j).fits)
+    let n : s.args.place / 64 + z.size-2.result - s.args.place / 64 ≡ 2 ^ (s.args.order - 6) = add-sub_cancel_left _ _ ∙ z.size-2.ensures in
+    rw (n, c.before.solid_row.ensures) at c.rows_are.ensures
+    ∙ block_by_rows s.requires s.args.b z.before.if-order-le6.false (λ j. (z.before.before.shared_slice_known-1.given j).fits)
 
 pub block_is_spec : {M : Type 1} → statement M
 block_is_spec =

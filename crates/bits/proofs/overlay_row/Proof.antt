@@ -8,26 +8,26 @@ use Rattle.base.proofs.Masks.{overlay_none, overlay_or, overlay_off}
 use Rattle.bits.proofs.overlay_row.Statement.{statement}
 use Rattle.bits.proofs.overlay_row.Tie as tie
 
-returns : tie.Need-returns
-returns c = let s = c.before.args in rw c.if1.true (sym (overlay_none s.b s.v s.hi))
+returns : tie.Need-returns-then-lo-hi
+returns c = let s = c.before.args in rw c.if-lo-hi.true (sym (overlay_none s.b s.v s.hi))
 
-sub_result : tie.Need-overflow-sub-result
+sub_result : tie.Need-overflow_sub-result
 sub_result c =
     let v = c.before.before.before.args.v in
-    let mask = c.before.block-mask.result in
+    let mask = c.before.block_mask-mask.result in
     omega (arith, or_add_and v mask, and_le_l v mask)
 
-returns_2 : tie.Need-returns-2
+returns_2 : tie.Need-returns-then-b
 returns_2 c =
     let s = c.before.before.before.args in
     let hi : s.lo + (s.hi - s.lo) ≡ s.hi = omega arith in
-    rw (c.before.block-mask.ensures, c.if2.true) (rw hi at (overlay_or s.v s.lo (s.hi - s.lo)))
+    rw (c.before.block_mask-mask.ensures, c.if-b.true) (rw hi at (overlay_or s.v s.lo (s.hi - s.lo)))
 
-returns_3 : tie.Need-returns-3
+returns_3 : tie.Need-returns-else-b
 returns_3 c =
     let s = c.before.before.before.args in
     let hi : s.lo + (s.hi - s.lo) ≡ s.hi = omega arith in
-    rw (c.before.block-mask.ensures, c.if2.false) (rw hi at (overlay_off s.v s.lo (s.hi - s.lo)))
+    rw (c.before.block_mask-mask.ensures, c.if-b.false) (rw hi at (overlay_off s.v s.lo (s.hi - s.lo)))
 
 pub overlay_row_spec : {M : Type 1} → statement M
 overlay_row_spec =

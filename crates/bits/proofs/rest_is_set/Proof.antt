@@ -4,16 +4,16 @@ use Rattle.bits.proofs.Tails.{rest_broken, rest_behind}
 use Rattle.bits.proofs.rest_is_set.Statement.{statement}
 use Rattle.bits.proofs.rest_is_set.Tie as tie
 
-returns : tie.Need-returns
+returns : tie.Need-returns-then-rows-i
 returns c =
     let s = c.before.before.before in
-    rest_broken s.args.rows.now s.args.place s.requires.0 (λ j. (c.before.shared-slice-known2.given j).fits) c.if1.true
+    rest_broken s.args.rows.now s.args.place s.requires.0 (λ j. (c.before.shared_slice_known-2-1.given j).fits) c.if-rows-i.true
 
-returns_2 : tie.Need-returns-2
+returns_2 : tie.Need-returns
 returns_2 c =
     let e = c.before.before in
     let s = e.before.before.before in
-    rest_behind s.args.rows.now s.args.place s.requires.0 (λ j. (e.before.shared-slice-known2.given j).fits) e.if1.false c.rows_are.ensures
+    rest_behind s.args.rows.now s.args.place s.requires.0 (λ j. (e.before.shared_slice_known-2-1.given j).fits) e.if-rows-i.false c.rows_are.ensures
 
 pub rest_is_set_spec : {M : Type 1} → statement M
 rest_is_set_spec =

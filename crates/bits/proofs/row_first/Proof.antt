@@ -17,10 +17,10 @@ first_is : (c : tie.After-matching) → let a = c.before.args in
     first (row_is a.b a.v) a.size a.place ≡ min (a.place + count_trailing_zeros 64 (c.matching.result / 2 ^ a.place)) (a.place + a.size)
 first_is c = let s = c.before in row_first_is s.args.b s.args.v s.args.place s.args.size s.ranges.v.fits s.requires.1 c.matching.ensures refl
 
-returns : tie.Need-returns
+returns : tie.Need-returns-then-found-place
 returns c = omega (arith, first_is c.before)
 
-returns_2 : tie.Need-returns-2
+returns_2 : tie.Need-returns
 returns_2 c = omega (arith, first_is c.before)
 
 pub row_first_spec : {M : Type 1} → statement M

@@ -8,23 +8,23 @@ use Rattle.base.proofs.Walks.{AllAt, all_start, all_broken, all_more, all_end}
 use Rattle.bits.proofs.rows_are.Statement.{statement}
 use Rattle.bits.proofs.rows_are.Tie as tie
 
-abbrev invariant_loop : tie.invariant_loop
+abbrev invariant_loop : tie.invariant-loop-i
 invariant_loop rows x i₀ i = AllAt (λ j. eqb (get_or rows j 0) x) (length rows) i
 
-abbrev decreases_loop : tie.decreases_loop
+abbrev decreases_loop : tie.decreases-loop-i
 decreases_loop rows x i₀ i = length rows - i
 
-loop_holds : tie.Need-loop-init invariant_loop decreases_loop
+loop_holds : tie.Need-loop-i-init invariant_loop decreases_loop
 loop_holds c = all_start _ _
 
-returns : tie.Need-returns invariant_loop decreases_loop
-returns c = all_broken _ _ _ c.before.before.before.loop.invariant c.before.before.loop-test.true (ne_eqb _ _ c.if1.true)
+returns : tie.Need-returns-then-rows-i invariant_loop decreases_loop
+returns c = all_broken _ _ _ c.before.before.before.loop-i.invariant c.before.before.loop-i-test.true (ne_eqb _ _ c.if-rows-i.true)
 
-loop_again : tie.Need-loop-preserved invariant_loop decreases_loop
-loop_again c = all_more _ _ _ c.before.before.before.loop.invariant c.before.before.loop-test.true (eq-eqb _ _ c.if1.false)
+loop_again : tie.Need-loop-i-preserved invariant_loop decreases_loop
+loop_again c = all_more _ _ _ c.before.before.before.loop-i.invariant c.before.before.loop-i-test.true (eq-eqb _ _ c.if-rows-i.false)
 
-returns_2 : tie.Need-returns-2 invariant_loop decreases_loop
-returns_2 c = all_end _ _ _ c.before.loop.invariant c.loop-test.false
+returns_2 : tie.Need-returns invariant_loop decreases_loop
+returns_2 c = all_end _ _ _ c.before.loop-i.invariant c.loop-i-test.false
 
 pub rows_are_spec : {M : Type 1} → statement M
 rows_are_spec =

@@ -10,22 +10,22 @@ use Rattle.rules.specs.State.{entry_of}
 use Rattle.entries.proofs.are.Statement.{statement}
 use Rattle.entries.proofs.are.Tie as tie
 
-abbrev invariant_loop : tie.invariant_loop
+abbrev invariant_loop : tie.invariant-loop-i
 invariant_loop entries v at g end i₀ i = (at ≤ i) × (i ≤ end) × ((k : ℕ) → k < i → at ≤ k → entry_of entries k ≡ v)
 
-abbrev decreases_loop : tie.decreases_loop
+abbrev decreases_loop : tie.decreases-loop-i
 decreases_loop entries v at g end i₀ i = end - i
 
-returns : tie.Need-returns invariant_loop decreases_loop
+returns : tie.Need-returns-then-entries-i invariant_loop decreases_loop
 returns c =
-    let at = c.before.before.before.loop in
-    sym (all_not _ _ _ at.i at.invariant.0 c.before.before.loop-test.true (ne_eqb _ _ c.if1.true))
+    let at = c.before.before.before.loop-i in
+    sym (all_not _ _ _ at.i at.invariant.0 c.before.before.loop-i-test.true (ne_eqb _ _ c.if-entries-i.true))
 
-loop_again : tie.Need-loop-preserved invariant_loop decreases_loop
-loop_again c = (omega arith, omega arith, below_more _ _ c.before.before.before.loop.invariant.2 (λ a. c.if1.false))
+loop_again : tie.Need-loop-i-preserved invariant_loop decreases_loop
+loop_again c = (omega arith, omega arith, below_more _ _ c.before.before.before.loop-i.invariant.2 (λ a. c.if-entries-i.false))
 
-returns_2 : tie.Need-returns-2 invariant_loop decreases_loop
-returns_2 c = sym (all_of _ _ _ (λ k lo hi. eq-eqb _ _ (c.before.loop.invariant.2 k (omega arith) lo)))
+returns_2 : tie.Need-returns invariant_loop decreases_loop
+returns_2 c = sym (all_of _ _ _ (λ k lo hi. eq-eqb _ _ (c.before.loop-i.invariant.2 k (omega arith) lo)))
 
 pub are_spec : {M : Type 1} → statement M
 are_spec =

@@ -11,31 +11,31 @@ use Rattle.rules.proofs.Entries.{free_most}
 use Rattle.entries.proofs.blocks.Statement.{statement}
 use Rattle.entries.proofs.blocks.Tie as tie
 
-abbrev invariant_loop : tie.invariant_loop
+abbrev invariant_loop : tie.invariant-loop-i
 invariant_loop entries k at order sum₀ i₀ sum i = SumAt (λ x. free_of (entry_of entries x) / 2 ^ order) mark at k i sum
 
-abbrev decreases_loop : tie.decreases_loop
+abbrev decreases_loop : tie.decreases-loop-i
 decreases_loop entries k at order sum₀ i₀ sum i = k - i
 
-loop_holds : tie.Need-loop-init invariant_loop decreases_loop
+loop_holds : tie.Need-loop-i-init invariant_loop decreases_loop
 loop_holds c = sum_start
 
 -- what the next entry adds
 here : (a : tie.After-free invariant_loop decreases_loop) → a.free.result / 2 ^ a.before.before.before.before.before.args.order ≤ mark
 here a =
-    let count : a.free.result ≤ mark = rw a.free.ensures (free_most _ (a.before.shared-slice-known2.given _).fits) in
+    let count : a.free.result ≤ mark = rw a.free.ensures (free_most _ (a.before.shared_slice_known-in-loop-i-1.given _).fits) in
     omega (arith, count, div-le_self a.free.result (2 ^ a.before.before.before.before.before.args.order))
 
-add_sum : tie.Need-overflow-add-sum invariant_loop decreases_loop
-add_sum c = omega (arith, here c, c.before.before.before.loop.invariant.low)
+add_sum : tie.Need-overflow_add-sum invariant_loop decreases_loop
+add_sum c = omega (arith, here c, c.before.before.before.loop-i.invariant.low)
 
-loop_again : tie.Need-loop-preserved invariant_loop decreases_loop
+loop_again : tie.Need-loop-i-preserved invariant_loop decreases_loop
 loop_again c =
     let k = c.before.before in
-    sum_turn k.before.loop.invariant k.loop-test.true (ap (λ (x : ℕ). x / 2 ^ k.before.before.before.args.order) c.free.ensures) (here c)
+    sum_turn k.before.loop-i.invariant k.loop-i-test.true (ap (λ (x : ℕ). x / 2 ^ k.before.before.before.args.order) c.free.ensures) (here c)
 
 returns : tie.Need-returns invariant_loop decreases_loop
-returns c = sum_end c.before.loop.invariant c.loop-test.false
+returns c = sum_end c.before.loop-i.invariant c.loop-i-test.false
 
 pub blocks_spec : {M : Type 1} → statement M
 blocks_spec =

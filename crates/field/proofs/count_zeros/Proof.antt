@@ -9,21 +9,21 @@ use Rattle.bitfield_rules.proofs.Laws.{rows_bits}
 use Rattle.field.proofs.count_zeros.Statement.{statement}
 use Rattle.field.proofs.count_zeros.Tie as tie
 
-returns : tie.Need-returns
+returns : tie.Need-returns-then-code-ne0
 unfolding spec.count_zeros
-returns c = rw (ne_eqb _ 0 (λ z. c.if1.true (c.before.rows_code.ensures ∙ z)), c.before.rows_code.ensures)
+returns c = rw (ne_eqb _ 0 (λ z. c.if-code-ne0.true (c.before.rows_code-code.ensures ∙ z)), c.before.rows_code-code.ensures)
 
 zeros_requires : tie.Need-zeros-requires
 zeros_requires c κs =
     let s = c.before.before.before in
-    let code = sym c.before.rows_code.ensures ∙ c.if1.false in
+    let code = sym c.before.rows_code-code.ensures ∙ c.if-code-ne0.false in
     omega (arith, rows_bits s.requires _ code, frames_fit s.requires)
 
-returns_2 : tie.Need-returns-2
+returns_2 : tie.Need-returns
 unfolding spec.count_zeros
 returns_2 c =
     let k = c.before.before in
-    let code = sym k.rows_code.ensures ∙ c.before.if1.false in
+    let code = sym k.rows_code-code.ensures ∙ c.before.if-code-ne0.false in
     rw (eq-eqb _ 0 code, ← rows_bits k.before.before.requires _ code) (ap (spec.zero_count 0) c.zeros.ensures)
 
 pub count_zeros_spec : {M : Type 1} → statement M

@@ -18,11 +18,11 @@ use Rattle.rules.proofs.GroupCases.{get_found, get_none}
 use Rattle.huge.proofs.get.Statement.{statement}
 use Rattle.huge.proofs.get.Tie as tie
 
-abbrev invariant_loop : tie.invariant_loop
+abbrev invariant_loop : tie.invariant-loop-j
 invariant_loop h n t entries₀ row order k x first g free end at₀ groups j₀ entries at j =
     (entries ≡ entries₀) × (at ≡ group_at t g x j) × FirstAt (λ i. entries_are (2 ^ h) entries₀ (group_at t g x i) g) groups j
 
-abbrev decreases_loop : tie.decreases_loop
+abbrev decreases_loop : tie.decreases-loop-j
 decreases_loop h n t entries₀ row order k x first g free end at₀ groups j₀ entries at j = groups - j
 
 -- the order is less than ten above the huge order
@@ -30,125 +30,121 @@ short : (c : tie.Start invariant_loop decreases_loop) → c.args.order - c.args.
 short c = order_low _ c.requires.2.1.sized c.requires.2.1.top
 
 -- the logarithm of the tree size is less than ten
-log_low : (c : tie.After-tree-log invariant_loop decreases_loop) → c.tree-log.result < 10
-log_low c = rw c.tree-log.ensures (ltb-true _ 10 c.before.before.requires.2.1.sized.tree)
+log_low : (c : tie.After-tree_log-k invariant_loop decreases_loop) → c.tree_log-k.result < 10
+log_low c = rw c.tree_log-k.ensures (ltb-true _ 10 c.requires.2.1.sized.tree)
 
-huge_tree_requires : tie.Need-huge-tree-requires invariant_loop decreases_loop
+huge_tree_requires : tie.Need-huge_tree-requires invariant_loop decreases_loop
 huge_tree_requires c κs = log_low c.before
 
-tree_huge_requires : tie.Need-tree-huge-requires invariant_loop decreases_loop
+tree_huge_requires : tie.Need-tree_huge-first-requires invariant_loop decreases_loop
 tree_huge_requires c κs =
     let k = c.before.before in
-    (log_low k, rw c.huge-tree.ensures (omega (arith, div-mul-le_self c.before.row-huge.result (2 ^ k.tree-log.result))))
+    (log_low k, rw c.huge_tree.ensures (omega (arith, div-mul-le_self c.row_huge-x.result (2 ^ k.tree_log-k.result))))
 
-size_requires : tie.Need-size-requires invariant_loop decreases_loop
+size_requires : tie.Need-size-g-requires invariant_loop decreases_loop
 size_requires c κs = omega (arith, short c.before.before.before.before.before)
 
-add_end : tie.Need-overflow-add-end invariant_loop decreases_loop
+add_end : tie.Need-overflow_add-end invariant_loop decreases_loop
 add_end c =
-    let first = c.before.before in
-    let x = first.before.before in
-    let s = x.before.before.before in
-    omega (arith, tree_low s.requires.0 s.requires.2.1 _ _ _ _ x.before.tree-log.ensures x.row-huge.ensures first.before.huge-tree.ensures first.tree_huge.ensures)
+    omega (arith, tree_low c.requires.0 c.requires.2.1 _ _ _ _ c.tree_log-k.ensures c.row_huge-x.ensures c.huge_tree.ensures c.tree_huge-first.ensures)
 
-huge_child_requires : tie.Need-huge-child-requires invariant_loop decreases_loop
+huge_child_requires : tie.Need-huge_child-requires invariant_loop decreases_loop
 huge_child_requires c κs = short c.before.before.before.before.before.before.before
 
-sub_at : tie.Need-overflow-sub-at invariant_loop decreases_loop
-sub_at c = rw c.huge-child.ensures (mod-le _ _)
+sub_at : tie.Need-overflow_sub-at invariant_loop decreases_loop
+sub_at c = rw c.huge_child.ensures (mod-le _ _)
 
-add_size : tie.Need-overflow-add-size invariant_loop decreases_loop
-add_size c = let k = c.before.before.before.before.before.before in omega (arith, k.before.before.requires.0.high, log_low k)
+add_size : tie.Need-overflow_add-h invariant_loop decreases_loop
+add_size c = let k = c.before.before.before.before.before.before in omega (arith, k.requires.0.high, log_low k)
 
-size_requires_2 : tie.Need-size-requires-2 invariant_loop decreases_loop
+size_requires_2 : tie.Need-size-groups-requires invariant_loop decreases_loop
 size_requires_2 c κs = omega (arith, log_low c.before.before.before.before.before.before)
 
 -- what the code has computed where the loop begins
-module _ (c : tie.After-size2 invariant_loop decreases_loop) where
+module _ (c : tie.After-size-groups invariant_loop decreases_loop) where
   abbrev start : tie.Start invariant_loop decreases_loop
   start = c.before.before.before.before.before.before.before.before.before
 
   -- the entries of a group
   abbrev wide : ℕ
-  wide = c.before.before.before.size.result
+  wide = c.size-g.result
 
   wide_is : wide ≡ group_of start.args.h start.args.order
-  wide_is = c.before.before.before.size.ensures
+  wide_is = c.size-g.ensures
 
   -- the tree's first entry
   abbrev base : ℕ
-  base = c.before.before.before.before.tree_huge.result
+  base = c.tree_huge-first.result
 
   -- the huge frame of the start row
   abbrev huge : ℕ
-  huge = c.before.before.before.before.before.before.row-huge.result
+  huge = c.row_huge-x.result
 
   huge_is : huge ≡ start.args.row / rows_per start.args.h
-  huge_is = c.before.before.before.before.before.before.row-huge.ensures ∙ huge_by_rows start.args.row start.pre.0
+  huge_is = c.row_huge-x.ensures ∙ huge_by_rows start.args.row start.requires.0
 
   -- the tree that is searched
-  tree : Tree start.args.t wide huge base c.size2.result (length start.args.entries.now)
+  tree : Tree start.args.t wide huge base c.size-groups.result (length start.args.entries.now)
   tree =
       let first = c.before.before.before.before in
-      let x = first.before.before in
-      tree_groups start.pre.0 start.pre.2.1 _ _ _ _ x.before.tree-log.ensures x.row-huge.ensures first.before.huge-tree.ensures first.tree_huge.ensures
-      start.pre.1 _ _ wide_is c.size2.ensures
+      tree_groups start.requires.0 start.requires.2.1 _ _ _ _ first.tree_log-k.ensures first.row_huge-x.ensures first.huge_tree.ensures first.tree_huge-first.ensures
+      start.requires.1 _ _ wide_is c.size-groups.ensures
 
-loop_holds : tie.Need-loop-init invariant_loop decreases_loop
-loop_holds c = (refl, rw (c.before.huge-child.ensures, ← wide_is c) (group_starts (tree c)), first_start _ _)
+loop_holds : tie.Need-loop-j-init invariant_loop decreases_loop
+loop_holds c = (refl, rw (c.huge_child.ensures, ← wide_is c) (group_starts (tree c)), first_start _ _)
 
 -- group j ends in the tree
-ends : (a : tie.At-loop invariant_loop decreases_loop) → a.loop.at + wide a.before ≤ base a.before + (start a.before).args.t
-ends a = group_ends (tree a.before) _ _ a.loop.invariant.1
+ends : (a : tie.At-loop-j invariant_loop decreases_loop) → a.loop-j.at + wide a.before ≤ base a.before + (start a.before).args.t
+ends a = group_ends (tree a.before) _ _ a.loop-j.invariant.1
 
 -- so its entries are lent
-lent : (a : tie.At-loop invariant_loop decreases_loop) → a.loop.at + wide a.before ≤ length a.loop.entries
-lent a = rw a.loop.invariant.0 (omega (arith, ends a, (tree a.before).ends))
+lent : (a : tie.At-loop-j invariant_loop decreases_loop) → a.loop-j.at + wide a.before ≤ length a.loop-j.entries
+lent a = rw a.loop-j.invariant.0 (omega (arith, ends a, (tree a.before).ends))
 
 -- whether group j is free is what was asked
 answer : (c : tie.After-are invariant_loop decreases_loop) → let a = c.before.before.before in let s = start a.before in
-    entries_are (2 ^ s.args.h) s.args.entries.now (group_at s.args.t (wide a.before) (huge a.before) a.loop.j) (wide a.before) ≡ c.are.result
-answer c = let a = c.before.before.before in sym (rw (a.before.before.before.whole.ensures, a.loop.invariant.0, a.loop.invariant.1) at c.are.ensures)
+    entries_are (2 ^ s.args.h) s.args.entries.now (group_at s.args.t (wide a.before) (huge a.before) a.loop-j.j) (wide a.before) ≡ c.are.result
+answer c = sym (rw (c.whole-free.ensures, c.loop-j.invariant.0, c.loop-j.invariant.1) at c.are.ensures)
 
 are_requires : tie.Need-are-requires invariant_loop decreases_loop
 are_requires c κs = lent c.before.before
 
 take_requires : tie.Need-take-requires invariant_loop decreases_loop
-take_requires c κs = let a = c.before.before.before.before.before in ((start a.before).pre.0, lent a, omega (arith, ends a, (tree a.before).low))
+take_requires c κs = let a = c.before.before.before.before.before in ((start a.before).requires.0, lent a, omega (arith, ends a, (tree a.before).low))
 
-same_length : tie.Need-same-length invariant_loop decreases_loop
-same_length c = c.before.before.take.auto.1.1.0 ∙ ap length c.before.before.before.before.before.before.before.before.loop.invariant.0
+same_length : tie.Need-shape_of-entries-then-are invariant_loop decreases_loop
+same_length c = c.take.auto.1.1.0 ∙ ap length c.loop-j.invariant.0
 
-returns : tie.Need-returns invariant_loop decreases_loop
+returns : tie.Need-returns-then-are invariant_loop decreases_loop
 returns c =
     let e = c.before.before.before.before.before in
     let a = e.before.before.before in
-    let in_loop = e.before.before.loop-test.true in
+    let in_loop = e.loop-j-test.true in
     get_found _ _ _ _ _ _ _ _ _ _ (wide_is a.before) (huge_is a.before) (groups_are (tree a.before))
-    (first_found _ _ _ a.loop.invariant.2 in_loop (answer e ∙ c.before.before.before.before.if1.true))
-    in_loop (rw (a.loop.invariant.0, a.loop.invariant.1) at c.before.before.take.ensures)
+    (first_found _ _ _ a.loop-j.invariant.2 in_loop (answer e ∙ c.if-are.true))
+    in_loop (rw (a.loop-j.invariant.0, a.loop-j.invariant.1) at c.take.ensures)
 
-add_at : tie.Need-overflow-add-at invariant_loop decreases_loop
+add_at : tie.Need-overflow_add-at invariant_loop decreases_loop
 add_at c = let a = c.before.before.before.before in omega (arith, ends a, (tree a.before).low)
 
-loop_again : tie.Need-loop-preserved invariant_loop decreases_loop
+loop_again : tie.Need-loop-j-preserved invariant_loop decreases_loop
 loop_again c =
     let e = c.before.before in
     let a = e.before.before.before in (
-      a.loop.invariant.0,
+      a.loop-j.invariant.0,
       ⊎_elim
-          (λ w. rw w.1 (group_wraps (tree a.before) _ _ a.loop.invariant.1 w.0.taken))
-          (λ w. rw w.1 (group_next (tree a.before) _ _ a.loop.invariant.1 w.0.left))
-          c.if2.branch,
-      first_more _ _ _ a.loop.invariant.2 e.before.before.loop-test.true (answer e ∙ c.before.if1.false),
+          (λ w. rw w.1 (group_wraps (tree a.before) _ _ a.loop-j.invariant.1 w.0.taken))
+          (λ w. rw w.1 (group_next (tree a.before) _ _ a.loop-j.invariant.1 w.0.left))
+          c.if-at-end.branch,
+      first_more _ _ _ a.loop-j.invariant.2 e.loop-j-test.true (answer e ∙ c.if-are.false),
     )
 
-returns_2 : tie.Need-returns-2 invariant_loop decreases_loop
+returns_2 : tie.Need-returns invariant_loop decreases_loop
 returns_2 c =
     let a = c.before in
-    rw a.loop.invariant.0
+    rw a.loop-j.invariant.0
     (get_none _ _ _ _ _ _ _ _ _ _ (wide_is a.before) (huge_is a.before) (groups_are (tree a.before))
-    (first_none _ _ _ a.loop.invariant.2 c.loop-test.false) c.loop-test.false)
+    (first_none _ _ _ a.loop-j.invariant.2 c.loop-j-test.false) c.loop-j-test.false)
 
 pub get_spec : {M : Type 1} → statement M
 get_spec =

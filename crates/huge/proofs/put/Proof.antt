@@ -10,15 +10,15 @@ use Rattle.huge.proofs.put.Statement.{statement}
 use Rattle.huge.proofs.put.Tie as tie
 
 -- the function's entry, from where the group's size is known
-abbrev entry : tie.After-size → tie.Start
+abbrev entry : tie.After-size-g → tie.Start
 entry g = g.before.before.before
 
 -- the entries of the group are lent
-lent : (g : tie.After-size) → g.before.frame-huge.result + g.size.result ≤ length (entry g).args.entries.now
-lent g = let p = (entry g).requires in group_lent p.0 p.1 p.2.3 g.before.frame-huge.ensures g.size.ensures
+lent : (g : tie.After-size-g) → g.frame_huge-at.result + g.size-g.result ≤ length (entry g).args.entries.now
+lent g = let p = (entry g).requires in group_lent p.0 p.1 p.2.3 g.frame_huge-at.ensures g.size-g.ensures
 
-size_requires : tie.Need-size-requires
-size_requires c κs = let b = c.before.before.requires.2.3 in omega (arith, order_low _ b.sized b.top)
+size_requires : tie.Need-size-g-requires
+size_requires c κs = let b = c.requires.2.3 in omega (arith, order_low _ b.sized b.top)
 
 are_requires : tie.Need-are-requires
 are_requires c κs = lent c.before
@@ -26,19 +26,15 @@ are_requires c κs = lent c.before
 fill_requires : tie.Need-fill-requires
 fill_requires c κs = lent c.before.before.before.before.before
 
-returns : tie.Need-returns
+returns : tie.Need-returns-then-are
 returns c =
-    let w = c.before.before.before in
-    let t = w.before.before in
-    let g = t.before.before.before in
-    rw c.before.before.fill.ensures
-    (put_done _ _ _ _ _ _ g.before.frame-huge.ensures g.size.ensures _ w.whole.ensures
-    (sym t.before.are.ensures ∙ t.if1.true))
+    rw c.fill.ensures
+    (put_done _ _ _ _ _ _ c.frame_huge-at.ensures c.size-g.ensures _ c.whole.ensures
+    (sym c.are.ensures ∙ c.if-are.true))
 
-returns_2 : tie.Need-returns-2
+returns_2 : tie.Need-returns
 returns_2 c =
-    let g = c.before.before.before in
-    put_refused _ _ _ _ _ _ g.before.frame-huge.ensures g.size.ensures (sym c.before.are.ensures ∙ c.if1.false)
+    put_refused _ _ _ _ _ _ c.frame_huge-at.ensures c.size-g.ensures (sym c.are.ensures ∙ c.if-are.false)
 
 pub put_spec : {M : Type 1} → statement M
 put_spec =

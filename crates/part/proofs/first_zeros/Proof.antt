@@ -5,7 +5,7 @@ use Rattle.part.proofs.first_zeros.Statement.{statement}
 use Rattle.part.proofs.first_zeros.Tie as tie
 
 returns : tie.Need-returns
-returns c = let z = c.before.before in rw (part_is _ _ _ z.before.huge-row.ensures z.size.ensures) at c.first-zeros.ensures
+returns c = rw (part_is _ _ _ c.huge_row-a.ensures c.size.ensures) at c.first_zeros.ensures
 
 pub first_zeros_spec : {M : Type 1} → statement M
 first_zeros_spec =

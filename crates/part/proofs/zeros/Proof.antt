@@ -9,10 +9,8 @@ use Rattle.part.proofs.zeros.Tie as tie
 
 returns : tie.Need-returns
 returns c =
-    let z = c.before.before in
-    let s = z.before.before.before in
-    ap (λ (a : ZeroCount). a.zeros) (rw (part_is _ _ _ z.before.huge-row.ensures z.size.ensures) at c.count_zeros.ensures)
-    ∙ zeros_counted s.requires.0 s.args.rows.now s.args.x s.requires.1
+    ap (λ (a : ZeroCount). a.zeros) (rw (part_is _ _ _ c.huge_row-a.ensures c.size.ensures) at c.count_zeros.ensures)
+    ∙ zeros_counted c.requires.0 c.args.rows.now c.args.x c.requires.1
 
 pub zeros_spec : {M : Type 1} → statement M
 zeros_spec =

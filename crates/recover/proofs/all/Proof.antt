@@ -9,62 +9,62 @@ use Rattle.recover.proofs.Totals.{MendAt, mend_start, mend_more, mend_asked, tot
 use Rattle.recover.proofs.all.Statement.{statement}
 use Rattle.recover.proofs.all.Tie as tie
 
-abbrev invariant_loop : tie.invariant_loop
+abbrev invariant_loop : tie.invariant-loop-x
 invariant_loop h n t rows₀ entries₀ present changed₀ cleared₀ x₀ rows entries changed cleared x = MendAt h (mem rows₀ entries₀) present rows entries changed cleared x
 
-abbrev decreases_loop : tie.decreases_loop
+abbrev decreases_loop : tie.decreases-loop-x
 decreases_loop h n t rows₀ entries₀ present changed₀ cleared₀ x₀ rows entries changed cleared x = present - x
 
-returns : tie.Need-returns invariant_loop decreases_loop
-returns c = refuses _ _ _ _ _ c.before.is-blocked.ensures c.if1.true
+returns : tie.Need-returns-then-is_blocked invariant_loop decreases_loop
+returns c = refuses _ _ _ _ _ c.is_blocked.ensures c.if-is_blocked.true
 
 -- the function's entry, from where the last present huge frame is known
-abbrev entry : tie.After-frame-huge invariant_loop decreases_loop → tie.Start invariant_loop decreases_loop
-entry f = f.before.before.before.before.before.before.before
+abbrev entry : tie.After-frame_huge-present invariant_loop decreases_loop → tie.Start invariant_loop decreases_loop
+entry f = f.before.before.before.before.before
 
 -- the last present huge frame's number is small
-low : (f : tie.After-frame-huge invariant_loop decreases_loop) → f.frame-huge.result < 1048576
-low f = last_low (entry f).requires.1 f.frame-huge.ensures
+low : (f : tie.After-frame_huge-present invariant_loop decreases_loop) → f.frame_huge-present.result < 1048576
+low f = last_low (entry f).requires.1 f.frame_huge-present.ensures
 
-add_present : tie.Need-overflow-add-present invariant_loop decreases_loop
+add_present : tie.Need-overflow_add-present invariant_loop decreases_loop
 add_present c = omega (arith, low c)
 
-loop_holds : tie.Need-loop-init invariant_loop decreases_loop
+loop_holds : tie.Need-loop-x-init invariant_loop decreases_loop
 loop_holds c = mend_start (mem _ _)
 
-mend_requires : tie.Need-mend-requires invariant_loop decreases_loop
+mend_requires : tie.Need-mend-mended-requires invariant_loop decreases_loop
 mend_requires c κs =
     let at = c.before.before.before in
-    let pre = (entry at.before).pre in
-    mend_asked pre.0 _ _ pre.1 at.before.frame-huge.ensures at.loop.invariant c.before.before.loop-test.true
+    let pre = (entry at.before).requires in
+    mend_asked pre.0 _ _ pre.1 at.frame_huge-present.ensures at.loop-x.invariant c.loop-x-test.true
 
 -- after a turn the totals are still at most the huge frames passed
-totals : (c : tie.After-mend invariant_loop decreases_loop) → let at = c.before.before.before.before.loop in
-    (at.changed + c.mend.result.entries ≤ at.x + 1) × (at.cleared + c.mend.result.bitfields ≤ at.x + 1)
+totals : (c : tie.After-mend-mended invariant_loop decreases_loop) → let at = c.loop-x in
+    (at.changed + c.mend-mended.result.entries ≤ at.x + 1) × (at.cleared + c.mend-mended.result.bitfields ≤ at.x + 1)
 totals c =
     let at = c.before.before.before.before in
-    totals_low _ (mend_more _ at.loop.invariant (entry at.before).pre.0 c.before.before.before.loop-test.true c.mend.ensures)
+    totals_low _ (mend_more _ at.loop-x.invariant (entry at.before).requires.0 c.loop-x-test.true c.mend-mended.ensures)
 
-add_changed : tie.Need-overflow-add-changed invariant_loop decreases_loop
+add_changed : tie.Need-overflow_add-changed invariant_loop decreases_loop
 add_changed c = let m = c.before.before.before.before.before in omega (arith, low m.before.before.before.before.before, (totals m).0)
 
-add_cleared : tie.Need-overflow-add-cleared invariant_loop decreases_loop
+add_cleared : tie.Need-overflow_add-cleared invariant_loop decreases_loop
 add_cleared c = let m = c.before.before.before.before.before.before in omega (arith, low m.before.before.before.before.before, (totals m).1)
 
-add_x : tie.Need-overflow-add-x invariant_loop decreases_loop
+add_x : tie.Need-overflow_add-x invariant_loop decreases_loop
 add_x c = omega (arith, low c.before.before.before.before.before.before.before.before.before.before.before)
 
-loop_again : tie.Need-loop-preserved invariant_loop decreases_loop
+loop_again : tie.Need-loop-x-preserved invariant_loop decreases_loop
 loop_again c =
     let d = c.before.before.before.before.before.before in
     let at = d.before.before.before.before in
-    mend_more _ at.loop.invariant (entry at.before).pre.0 d.before.before.before.loop-test.true d.mend.ensures
+    mend_more _ at.loop-x.invariant (entry at.before).requires.0 d.loop-x-test.true d.mend-mended.ensures
 
-returns_2 : tie.Need-returns-2 invariant_loop decreases_loop
+returns_2 : tie.Need-returns invariant_loop decreases_loop
 returns_2 c =
     let f = c.before.before in
     let pre = (entry f).requires in
-    recovers pre.0 _ _ pre.1 f.frame-huge.ensures f.before.before.is-blocked.ensures f.before.if1.false c.before.loop.invariant c.loop-test.false
+    recovers pre.0 _ _ pre.1 f.frame_huge-present.ensures f.is_blocked.ensures f.if-is_blocked.false c.loop-x.invariant c.loop-x-test.false
 
 pub all_spec : {M : Type 1} → statement M
 all_spec =

@@ -7,29 +7,21 @@ use Rattle.recover.proofs.Mends.{zeros_fit, agrees, clears, replaces}
 use Rattle.recover.proofs.mend.Statement.{statement}
 use Rattle.recover.proofs.mend.Tie as tie
 
-returns : tie.Need-returns
+returns : tie.Need-returns-then-zeros-expected_zeros
 returns c =
-    let z = c.before.before in
-    let k = z.before.before.before.before in
-    agrees k.before.requires.0 _ _ _ (λ j. (k.slice-known.given j).fits) z.zeros.ensures c.before.expected-zeros.ensures c.if1.true
+    agrees c.requires.0 _ _ _ (λ j. (c.slice_known-1.given j).fits) c.zeros-zeros.ensures c.expected_zeros.ensures c.if-zeros-expected_zeros.true
 
-returns_2 : tie.Need-returns-2
+returns_2 : tie.Need-returns-then-entry
 returns_2 c =
-    let a = c.before.before.before.before.before in
-    let m = a.before in
-    let z = m.before.before.before in
-    let k = z.before.before.before.before in
-    clears k.before.requires.0 _ _ _ (λ j. (k.slice-known.given j).fits) z.zeros.ensures m.before.before.expected-zeros.ensures m.before.if1.false m.if2.true
-    k.before.requires.2 a.huge-row.ensures (add-sub_cancel_left _ _ ∙ c.before.before.before.before.size.ensures) c.before.before.fill-rows.ensures
+    clears c.requires.0 _ _ _ (λ j. (c.slice_known-1.given j).fits) c.zeros-zeros.ensures c.expected_zeros.ensures c.if-zeros-expected_zeros.false c.if-entry.true
+    c.requires.2 c.huge_row-a.ensures (add-sub_cancel_left _ _ ∙ c.size.ensures) c.fill_rows.ensures
 
-cast_entries : tie.Need-overflow-cast-entries
-cast_entries c = let z = c.before.before.before in omega (arith, zeros_fit z.before.before.before.before.before.requires.0 _ _ z.zeros.ensures)
+cast_entries : tie.Need-overflow_cast-entries
+cast_entries c = omega (arith, zeros_fit c.requires.0 _ _ c.zeros-zeros.ensures)
 
-returns_3 : tie.Need-returns-3
+returns_3 : tie.Need-returns
 returns_3 c =
-    let z = c.before.before.before in
-    let k = z.before.before.before.before in
-    replaces k.before.requires.0 _ _ _ (λ j. (k.slice-known.given j).fits) z.zeros.ensures c.before.before.expected-zeros.ensures c.before.if1.false c.if2.false
+    replaces c.requires.0 _ _ _ (λ j. (c.slice_known-1.given j).fits) c.zeros-zeros.ensures c.expected_zeros.ensures c.if-zeros-expected_zeros.false c.if-entry.false
 
 pub mend_spec : {M : Type 1} → statement M
 mend_spec =

@@ -5,14 +5,14 @@ use Rattle.base.proofs.Codes.{stops, passes}
 use Rattle.refuse.proofs.frame.Statement.{statement}
 use Rattle.refuse.proofs.frame.Tie as tie
 
-returns : tie.Need-returns
-returns c = stops _ c.before.sizes.ensures c.if1.true
+returns : tie.Need-returns-then-code-ne0
+returns c = stops _ c.before.sizes-code.ensures c.if-code-ne0.true
 
-returns_2 : tie.Need-returns-2
-returns_2 c = let s = c.before in passes s.before.sizes.ensures s.if1.false (rw (lt-ltb _ _ c.if2.true))
+returns_2 : tie.Need-returns-then-frame-n
+returns_2 c = let s = c.before in passes s.before.sizes-code.ensures s.if-code-ne0.false (rw (lt-ltb _ _ c.if-frame-n.true))
 
-returns_3 : tie.Need-returns-3
-returns_3 c = let s = c.before in passes s.before.sizes.ensures s.if1.false (rw (le-ltb _ _ c.if2.false))
+returns_3 : tie.Need-returns-else-frame-n
+returns_3 c = let s = c.before in passes s.before.sizes-code.ensures s.if-code-ne0.false (rw (le-ltb _ _ c.if-frame-n.false))
 
 pub frame_spec : {M : Type 1} → statement M
 frame_spec = tie.close (tie.spec (λ c κs. search rules) returns returns_2 returns_3)

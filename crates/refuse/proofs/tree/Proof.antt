@@ -4,11 +4,11 @@ use Rattle.base.proofs.Codes.{no_code, its_code}
 use Rattle.refuse.proofs.tree.Statement.{statement}
 use Rattle.refuse.proofs.tree.Tie as tie
 
-returns : tie.Need-returns
-returns c = no_code _ c.before.is-tree.ensures c.if1.true
+returns : tie.Need-returns-then-is_tree
+returns c = no_code _ c.before.is_tree.ensures c.if-is_tree.true
 
-returns_2 : tie.Need-returns-2
-returns_2 c = its_code _ c.before.is-tree.ensures c.if1.false
+returns_2 : tie.Need-returns-else-is_tree
+returns_2 c = its_code _ c.before.is_tree.ensures c.if-is_tree.false
 
 pub tree_spec : {M : Type 1} → statement M
 tree_spec = tie.close (tie.spec (λ c κs. search rules) returns returns_2)

@@ -13,38 +13,35 @@ use Rattle.room.proofs.Rooms.{room_filled}
 use Rattle.room.proofs.counts.Statement.{statement}
 use Rattle.room.proofs.counts.Tie as tie
 
-abbrev invariant_loop : tie.invariant_loop
+abbrev invariant_loop : tie.invariant-loop-order
 invariant_loop h t entries frame counts₀ top at order₀ counts order =
     (order ≤ length counts₀) × (length counts ≡ length counts₀) × (counts ≡ written (spec.room_at h t entries at) counts₀ 0 order)
 
-abbrev decreases_loop : tie.decreases_loop
+abbrev decreases_loop : tie.decreases-loop-order
 decreases_loop h t entries frame counts₀ top at order₀ counts order = length counts₀ - order
 
-loop_holds : tie.Need-loop-init invariant_loop decreases_loop
+loop_holds : tie.Need-loop-order-init invariant_loop decreases_loop
 unfolding written
 loop_holds c = (omega arith, refl, refl)
 
-at_order_requires : tie.Need-at-order-requires invariant_loop decreases_loop
+at_order_requires : tie.Need-at_order-requires invariant_loop decreases_loop
 at_order_requires c κs =
-    let a = c.before.before in
-    let pre = a.before.before.before.before.requires in
-    (pre.0, pre.1.2.sized.tree, a.before.top-order.ensures, rw a.tree-first.ensures (frame_tree pre.0 pre.1.2))
+    let pre = c.requires in
+    (pre.0, pre.1.2.sized.tree, c.top_order-top.ensures, rw c.tree_first-at.ensures (frame_tree pre.0 pre.1.2))
 
-loop_again : tie.Need-loop-preserved invariant_loop decreases_loop
+loop_again : tie.Need-loop-order-preserved invariant_loop decreases_loop
 loop_again c =
-    let a = c.before.before in
-    let at = a.loop in
-    let s = a.before.before.before.before.before.args in (
+    let at = c.loop-order in
+    let s = c.args in (
       omega arith,
       simp length-set at.invariant.1,
-      rw (at.invariant.2, c.at-order.ensures)
-          (rw zero-add at (written_more (spec.room_at s.h s.t s.entries.now a.before.tree-first.result) s.counts.now 0 at.order)),
+      rw (at.invariant.2, c.at_order.ensures)
+          (rw zero-add at (written_more (spec.room_at s.h s.t s.entries.now c.tree_first-at.result) s.counts.now 0 at.order)),
     )
 
 returns : tie.Need-returns invariant_loop decreases_loop
 returns c =
-    let a = c.before in
-    room_filled _ _ _ _ a.before.before.before.before.before.requires.2 a.before.tree-first.ensures a.loop.invariant.2 (omega arith)
+    room_filled _ _ _ _ c.requires.2 c.tree_first-at.ensures c.loop-order.invariant.2 (omega arith)
 
 pub counts_spec : {M : Type 1} → statement M
 counts_spec =

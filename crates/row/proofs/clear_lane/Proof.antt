@@ -8,8 +8,8 @@ returns : tie.Need-returns
 returns c o l width =
     let s = c.before in
     let lanes = rw add-one at s.requires.1 in
-    lane_law o s.args.top lanes.0 c.wrapping-sub-u64.result s.args.v s.args.mask l (rw add-one at width) lanes.1 lanes.2 s.ranges.v.fits
-    c.wrapping-sub-u64.ensures
+    lane_law o s.args.top lanes.0 c.wrapping_sub_u64-below.result s.args.v s.args.mask l (rw add-one at width) lanes.1 lanes.2 s.ranges.v.fits
+    c.wrapping_sub_u64-below.ensures
 
 pub clear_lane_spec : {M : Type 1} → statement M
 clear_lane_spec = tie.close (tie.spec (λ c κs. search rules) (λ c. search rules) returns)

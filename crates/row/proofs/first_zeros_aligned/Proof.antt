@@ -6,9 +6,9 @@ use Rattle.row.proofs.Past.{past}
 use Rattle.row.proofs.first_zeros_aligned.Statement.{statement}
 use Rattle.row.proofs.first_zeros_aligned.Tie as tie
 
-returns_8 : tie.Need-returns-8
+returns_8 : tie.Need-returns-in_default
 unfolding first_zeros
-returns_8 c = rw (lt-leb c.before.args.order 6 (past 7 c.before.args.order c.match.rest))
+returns_8 c = rw (lt-leb c.before.args.order 6 (past 7 c.before.args.order c.in_default.in_default-own.rest))
 
 pub first_zeros_aligned_spec : {M : Type 1} → statement M
 first_zeros_aligned_spec =
@@ -27,11 +27,11 @@ first_zeros_aligned_spec =
     (λ c κs. search rules)
     (λ c κs. search rules)
     (λ c κs. search rules)
-    (λ c. rw c.before.before.match.keys1 (c.taken.ensures 0 (omega arith) refl c.before.clear-bit.ensures))
-    (λ c. rw c.before.before.match.keys2 (c.taken2.ensures 1 (omega arith) refl c.before.clear-pair.ensures))
-    (λ c. rw c.before.before.match.keys3 (c.taken3.ensures 2 (omega arith) refl c.before.clear-nibble.ensures))
-    (λ c. rw c.before.before.match.keys4 (c.taken4.ensures 3 (omega arith) refl c.before.clear-byte.ensures))
-    (λ c. rw c.before.before.match.keys5 (c.taken5.ensures 4 (omega arith) refl c.before.clear-half-word.ensures))
-    (λ c. rw c.before.match.keys6 c.taken-half.ensures)
-    (λ c. rw c.before.before.match.keys7 (c.taken6.ensures 6 (omega arith) refl c.before.clear_row.ensures))
+    (λ c. rw c.before.before.in-0.is (c.taken.ensures 0 (omega arith) refl c.before.clear_bit.ensures))
+    (λ c. rw c.before.before.in-1.is (c.taken-in-1.ensures 1 (omega arith) refl c.before.clear_pair.ensures))
+    (λ c. rw c.before.before.in-2.is (c.taken-in-2.ensures 2 (omega arith) refl c.before.clear_nibble.ensures))
+    (λ c. rw c.before.before.in-3.is (c.taken-in-3.ensures 3 (omega arith) refl c.before.clear_byte.ensures))
+    (λ c. rw c.before.before.in-4.is (c.taken-in-4.ensures 4 (omega arith) refl c.before.clear_half_word.ensures))
+    (λ c. rw c.before.in-5.is c.taken_half.ensures)
+    (λ c. rw c.before.before.in-6.is (c.taken-in-6.ensures 6 (omega arith) refl c.before.clear_row.ensures))
     returns_8)

@@ -4,8 +4,8 @@ use Rattle.row.proofs.Past.{past}
 use Rattle.row.proofs.lowest_clear.Statement.{statement}
 use Rattle.row.proofs.lowest_clear.Tie as tie
 
-returns_7 : tie.Need-returns-7
-returns_7 c = let s : c.before.before.args.order ≡ 6 = omega (arith, past 6 c.before.before.args.order c.before.match.rest) in rw s c.clear_row.ensures
+returns_7 : tie.Need-returns-in_default
+returns_7 c = let s : c.before.before.args.order ≡ 6 = omega (arith, past 6 c.before.before.args.order c.before.in_default.in_default-own.rest) in rw s c.clear_row.ensures
 
 pub lowest_clear_spec : {M : Type 1} → statement M
 lowest_clear_spec =
@@ -18,10 +18,10 @@ lowest_clear_spec =
     (λ c κs. search rules)
     (λ c κs. search rules)
     (λ c κs. search rules)
-    (λ c. rw c.before.match.keys1 c.clear-bit.ensures)
-    (λ c. rw c.before.match.keys2 c.clear-pair.ensures)
-    (λ c. rw c.before.match.keys3 c.clear-nibble.ensures)
-    (λ c. rw c.before.match.keys4 c.clear-byte.ensures)
-    (λ c. rw c.before.match.keys5 c.clear-half-word.ensures)
-    (λ c. rw c.before.match.keys6 c.clear-half.ensures)
+    (λ c. rw c.before.in-0.is c.clear_bit.ensures)
+    (λ c. rw c.before.in-1.is c.clear_pair.ensures)
+    (λ c. rw c.before.in-2.is c.clear_nibble.ensures)
+    (λ c. rw c.before.in-3.is c.clear_byte.ensures)
+    (λ c. rw c.before.in-4.is c.clear_half_word.ensures)
+    (λ c. rw c.before.in-5.is c.clear_half.ensures)
     returns_7)

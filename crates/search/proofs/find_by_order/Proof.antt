@@ -6,8 +6,8 @@ use Rattle.row.proofs.Past.{past}
 use Rattle.search.proofs.find_by_order.Statement.{statement}
 use Rattle.search.proofs.find_by_order.Tie as tie
 
-returns_7 : tie.Need-returns-7
-returns_7 c = let s : c.before.before.before.args.order ≡ 6 = omega (arith, past 6 c.before.before.before.args.order c.before.match.rest) in rw s c.find-in-rows7.ensures
+returns_7 : tie.Need-returns-in_default
+returns_7 c = let s : c.args.order ≡ 6 = omega (arith, past 6 c.args.order c.in_default.in_default-own.rest) in rw s c.find_in_rows-in_default.ensures
 
 pub find_by_order_spec : {M : Type 1} → statement M
 find_by_order_spec =
@@ -20,10 +20,10 @@ find_by_order_spec =
     (λ c κs. search rules)
     (λ c κs. search rules)
     (λ c κs. search rules)
-    (λ c. rw c.before.match.keys1 c.find-in-rows.ensures)
-    (λ c. rw c.before.match.keys2 c.find-in-rows2.ensures)
-    (λ c. rw c.before.match.keys3 c.find-in-rows3.ensures)
-    (λ c. rw c.before.match.keys4 c.find-in-rows4.ensures)
-    (λ c. rw c.before.match.keys5 c.find-in-rows5.ensures)
-    (λ c. rw c.before.match.keys6 c.find-in-rows6.ensures)
+    (λ c. rw c.in-0.is c.find_in_rows.ensures)
+    (λ c. rw c.in-1.is c.find_in_rows-in-1.ensures)
+    (λ c. rw c.in-2.is c.find_in_rows-in-2.ensures)
+    (λ c. rw c.in-3.is c.find_in_rows-in-3.ensures)
+    (λ c. rw c.in-4.is c.find_in_rows-in-4.ensures)
+    (λ c. rw c.in-5.is c.find_in_rows-in-5.ensures)
     returns_7)

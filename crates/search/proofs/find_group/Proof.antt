@@ -24,105 +24,105 @@ record Passed (h : ℕ) (rows : List ℕ) (start order row : ℕ) : Type 0 where
   most : groups ≤ 2 ^ (h - order)
   none : NoneOf h rows start order groups
 
-abbrev invariant_loop : tie.invariant_loop
+abbrev invariant_loop : tie.invariant-loop-row
 invariant_loop h rows start order count group end row₀ row = Passed h rows start order row
 
-abbrev decreases_loop : tie.decreases_loop
+abbrev decreases_loop : tie.decreases-loop-row
 decreases_loop h rows start order count group end row₀ row = end - row
 
-add_end : tie.Need-overflow-add-end invariant_loop decreases_loop
-add_end c = let s = c.before.before.before in omega (arith, c.before.size.ensures, rows_fit s.requires.0)
+add_end : tie.Need-overflow_add-end invariant_loop decreases_loop
+add_end c = omega (arith, c.size-count.ensures, rows_fit c.requires.0)
 
-loop_holds : tie.Need-loop-init invariant_loop decreases_loop
+loop_holds : tie.Need-loop-row-init invariant_loop decreases_loop
 loop_holds c = record { groups = 0; at = omega arith; most = zero-le; none = λ j l. absurd (omega arith) }
 
 -- the function's entry, from a turn of its loop
-abbrev entry : tie.At-loop invariant_loop decreases_loop → tie.Start invariant_loop decreases_loop
+abbrev entry : tie.At-loop-row invariant_loop decreases_loop → tie.Start invariant_loop decreases_loop
 entry a = a.before.before.before.before
 
 -- a group has no more rows than there are
-sub_place : tie.Need-overflow-sub-place invariant_loop decreases_loop
+sub_place : tie.Need-overflow_sub-place invariant_loop decreases_loop
 sub_place c =
     let s = entry c.before in
     let l : s.args.order - 6 ≤ s.args.h - 6 = omega arith in
-    omega (arith, c.before.before.size2.ensures, c.before.before.before.size.ensures, pow_mono l)
+    omega (arith, c.size-group.ensures, c.size-count.ensures, pow_mono l)
 
 -- the mask leads to the group that the search visits next
-place_at : (c : tie.In-loop invariant_loop decreases_loop) → let a = c.before in let s = (entry a).args in
-    visited s.h s.start s.order a.loop.invariant.groups ≡ bit_and a.loop.row (a.before.before.size.result - a.before.size2.result) * 64
+place_at : (c : tie.In-loop-row invariant_loop decreases_loop) → let a = c.before in let s = (entry a).args in
+    visited s.h s.start s.order a.loop-row.invariant.groups ≡ bit_and a.loop-row.row (a.size-count.result - a.size-group.result) * 64
 place_at c =
     let a = c.before in
     let s = entry a in
-    group_at s.args.h s.args.order s.pre.3 s.pre.4 s.args.start a.loop.invariant.groups a.loop.row a.before.before.size.ensures
-    a.before.size2.ensures (rw (mod-eq_of_lt s.pre.2) a.loop.invariant.at)
+    group_at s.args.h s.args.order s.requires.3 s.requires.4 s.args.start a.loop-row.invariant.groups a.loop-row.row a.size-count.ensures
+    a.size-group.ensures (rw (mod-eq_of_lt s.requires.2) a.loop-row.invariant.at)
 
-place_ends : (c : tie.In-loop invariant_loop decreases_loop) → let s = (entry c.before).args in visited s.h s.start s.order c.before.loop.invariant.groups + 2 ^ s.order ≤ 2 ^ s.h
-place_ends c = let s = entry c.before in visited_ends s.pre.0 s.args.start s.args.order s.pre.4 c.before.loop.invariant.groups
+place_ends : (c : tie.In-loop-row invariant_loop decreases_loop) → let s = (entry c.before).args in visited s.h s.start s.order c.loop-row.invariant.groups + 2 ^ s.order ≤ 2 ^ s.h
+place_ends c = let s = entry c.before in visited_ends s.requires.0 s.args.start s.args.order s.requires.4 c.loop-row.invariant.groups
 
-mul_place : tie.Need-overflow-mul-place invariant_loop decreases_loop
-mul_place c = omega (arith, place_at c, place_ends c, frames_fit (entry c.before).pre.0)
+mul_place : tie.Need-overflow_mul-place invariant_loop decreases_loop
+mul_place c = omega (arith, place_at c, place_ends c, frames_fit (entry c.before).requires.0)
 
-block_is_requires : tie.Need-block-is-requires invariant_loop decreases_loop
+block_is_requires : tie.Need-block_is-requires invariant_loop decreases_loop
 block_is_requires c κs =
     let s = entry c.before in
     rw (← place_at c)
     (record {
-      order = omega (arith, s.pre.0.high);
-      ends = omega (arith, place_ends c, rows_frames s.pre.0);
-      aligned = visited_aligned s.pre.0 s.args.start s.args.order s.pre.4 c.before.loop.invariant.groups;
+      order = omega (arith, s.requires.0.high);
+      ends = omega (arith, place_ends c, rows_frames s.requires.0);
+      aligned = visited_aligned s.requires.0 s.args.start s.args.order s.requires.4 c.loop-row.invariant.groups;
     })
 
 -- whether it is clear is what was asked
-answer : (c : tie.After-block-is invariant_loop decreases_loop) → let a = c.before.before in let s = (entry a).args in
-    clear_at s.h s.rows.now s.start s.order a.loop.invariant.groups ≡ c.block-is.result
+answer : (c : tie.After-block_is invariant_loop decreases_loop) → let a = c.before.before in let s = (entry a).args in
+    clear_at s.h s.rows.now s.start s.order a.loop-row.invariant.groups ≡ c.block_is.result
 answer c =
     let s = entry c.before.before in
-    ap (λ (p : ℕ). block_is false s.args.rows.now p (2 ^ s.args.order)) (place_at c.before) ∙ sym c.block-is.ensures
+    ap (λ (p : ℕ). block_is false s.args.rows.now p (2 ^ s.args.order)) (place_at c.before) ∙ sym c.block_is.ensures
 
 -- there is still a group to visit
-inside : (c : tie.In-loop invariant_loop decreases_loop) → let s = (entry c.before).args in c.before.loop.invariant.groups < 2 ^ (s.h - s.order)
+inside : (c : tie.In-loop-row invariant_loop decreases_loop) → let s = (entry c.before).args in c.loop-row.invariant.groups < 2 ^ (s.h - s.order)
 inside c =
     let a = c.before in
     let s = entry a in
     lt_of_mul-lt-mul_right (group_rows s.args.order)
-    (omega (arith, c.loop-test.true, a.loop.invariant.at, a.before.before.size.ensures, all_groups s.args.h s.args.order s.pre.3 s.pre.4))
+    (omega (arith, c.loop-row-test.true, a.loop-row.invariant.at, a.size-count.ensures, all_groups s.args.h s.args.order s.requires.3 s.requires.4))
 
-returns : tie.Need-returns invariant_loop decreases_loop
+returns : tie.Need-returns-then-block_is invariant_loop decreases_loop
 returns c =
     let k = c.before.before in
     let s = entry k.before in
     ap (placed 0) (sym (place_at k))
-    ∙ answer_found s.args.h s.args.rows.now s.args.start s.args.order s.pre.1 s.pre.4 k.before.loop.invariant.groups (inside k) k.before.loop.invariant.none (answer c.before ∙ c.if1.true)
+    ∙ answer_found s.args.h s.args.rows.now s.args.start s.args.order s.requires.1 s.requires.4 k.loop-row.invariant.groups (inside k) k.loop-row.invariant.none (answer c.before ∙ c.if-block_is.true)
 
-add_row : tie.Need-overflow-add-row invariant_loop decreases_loop
+add_row : tie.Need-overflow_add-row invariant_loop decreases_loop
 add_row c =
     let k = c.before.before in
     let s = entry k.before in
-    omega (arith, k.loop-test.true, sub_place k, k.before.before.before.size.ensures, rows_fit s.pre.0)
+    omega (arith, k.loop-row-test.true, sub_place k, k.size-count.ensures, rows_fit s.requires.0)
 
-loop_less : tie.Need-loop-smaller invariant_loop decreases_loop
-loop_less c = let k = c.before.before in omega (arith, k.loop-test.true, k.before.before.size2.ensures, pow_pos ((entry k.before).args.order - 6))
+loop_less : tie.Need-loop-row-smaller invariant_loop decreases_loop
+loop_less c = let k = c.before.before in omega (arith, k.loop-row-test.true, k.size-group.ensures, pow_pos ((entry k.before).args.order - 6))
 
-loop_again : tie.Need-loop-preserved invariant_loop decreases_loop
+loop_again : tie.Need-loop-row-preserved invariant_loop decreases_loop
 loop_again c =
     let k = c.before.before in
-    let inv = k.before.loop.invariant in
+    let inv = k.loop-row.invariant in
     record {
       groups = inv.groups + 1;
-      at = omega (arith, inv.at, k.before.before.size2.ensures);
+      at = omega (arith, inv.at, k.size-group.ensures);
       most = omega (arith, inside k);
-      none = below_more _ _ inv.none (answer c.before ∙ c.if1.false);
+      none = below_more _ _ inv.none (answer c.before ∙ c.if-block_is.false);
     }
 
-returns_2 : tie.Need-returns-2 invariant_loop decreases_loop
+returns_2 : tie.Need-returns invariant_loop decreases_loop
 returns_2 c =
     let a = c.before in
     let s = entry a in
-    let inv = a.loop.invariant in
+    let inv = a.loop-row.invariant in
     let rows : 2 ^ (s.args.h - s.args.order) * group_rows s.args.order ≤ inv.groups * group_rows s.args.order =
-    omega (arith, c.loop-test.false, inv.at, a.before.before.size.ensures, all_groups s.args.h s.args.order s.pre.3 s.pre.4) in
+    omega (arith, c.loop-row-test.false, inv.at, a.size-count.ensures, all_groups s.args.h s.args.order s.requires.3 s.requires.4) in
     let all : inv.groups ≡ 2 ^ (s.args.h - s.args.order) = omega (arith, inv.most, le_of_mul-le-mul_right rows (pow_pos (s.args.order - 6))) in
-    answer_missed s.args.h s.args.rows.now s.args.start s.args.order s.pre.1 s.pre.4 (rw all at inv.none)
+    answer_missed s.args.h s.args.rows.now s.args.start s.args.order s.requires.1 s.requires.4 (rw all at inv.none)
 
 pub find_group_spec : {M : Type 1} → statement M
 find_group_spec =

@@ -7,18 +7,18 @@ use Rattle.rules.proofs.Trees.{tree_test, no_tree}
 use Rattle.shape.proofs.is_tree.Statement.{statement}
 use Rattle.shape.proofs.is_tree.Tie as tie
 
-returns : tie.Need-returns
-returns c = sym (no_tree _ (λ p. absurd (omega (arith, c.if1.true))))
+returns : tie.Need-returns-then-t-eq0
+returns c = sym (no_tree _ (λ p. absurd (omega (arith, c.if-t-eq0.true))))
 
-returns_2 : tie.Need-returns-2
-returns_2 c = sym (no_tree _ (λ p. c.if2.true))
+returns_2 : tie.Need-returns-then-t-gt-TREE_MAX
+returns_2 c = sym (no_tree _ (λ p. c.if-t-gt-TREE_MAX.true))
 
 -- t that passed its first check
-some : (c : tie.Else2) → 0 < c.before.before.args.t
-some c = omega (arith, c.before.if1.false)
+some : (c : tie.Else-t-gt-TREE_MAX) → 0 < c.before.before.args.t
+some c = omega (arith, c.before.if-t-eq0.false)
 
-returns_3 : tie.Need-returns-3
-returns_3 c = tree_test _ (some c) c.if2.false
+returns_3 : tie.Need-returns
+returns_3 c = tree_test _ (some c) c.if-t-gt-TREE_MAX.false
 
 pub is_tree_spec : {M : Type 1} → statement M
 is_tree_spec = tie.close (tie.spec returns returns_2 (λ c. search rules) returns_3)

@@ -6,7 +6,7 @@ use Rattle.base.proofs.Sizes.{mask_mod}
 use Rattle.shape.proofs.rest.Statement.{statement}
 use Rattle.shape.proofs.rest.Tie as tie
 
-sub_result : tie.Need-overflow-sub-result
+sub_result : tie.Need-overflow_sub-result
 sub_result c = omega (arith, pow_pos c.before.args.k)
 
 returns : tie.Need-returns

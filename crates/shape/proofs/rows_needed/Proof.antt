@@ -6,10 +6,10 @@ use Rattle.shape.proofs.Ceils.{ceil_shifted}
 use Rattle.shape.proofs.rows_needed.Statement.{statement}
 use Rattle.shape.proofs.rows_needed.Tie as tie
 
-sub_result : tie.Need-overflow-sub-result
+sub_result : tie.Need-overflow_sub-result
 sub_result c = omega (arith, pow_pos c.before.args.h)
 
-add_result : tie.Need-overflow-add-result
+add_result : tie.Need-overflow_add-result
 add_result c = omega (arith, pow_mono c.before.requires.0.high)
 
 returns : tie.Need-returns

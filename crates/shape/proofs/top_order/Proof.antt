@@ -5,7 +5,7 @@ use borrow.Author.Tests.{ltb-true}
 use Rattle.shape.proofs.top_order.Statement.{statement}
 use Rattle.shape.proofs.top_order.Tie as tie
 
-add_result : tie.Need-overflow-add-result
+add_result : tie.Need-overflow_add-result
 add_result c = omega (arith, c.before.requires.0.high, ltb-true)
 
 pub top_order_spec : {M : Type 1} → statement M

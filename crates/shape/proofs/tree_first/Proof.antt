@@ -10,26 +10,26 @@ use Rattle.shape.proofs.tree_first.Statement.{statement}
 use Rattle.shape.proofs.tree_first.Tie as tie
 
 -- T's logarithm is one of the ten
-low : (c : tie.After-tree-log) → c.tree-log.result < 10
-low c = log_low _ c.before.requires.1 c.tree-log.ensures
+low : (c : tie.After-tree_log-k) → c.tree_log-k.result < 10
+low c = log_low _ c.before.requires.1 c.tree_log-k.ensures
 
-add_tree_huge : tie.Need-overflow-add-tree-huge
+add_tree_huge : tie.Need-overflow_add-h
 add_tree_huge c = omega (arith, low c, c.before.requires.0.high)
 
-shr_tree_huge : tie.Need-overflow-shr-tree-huge
+shr_tree_huge : tie.Need-overflow_shr-frame
 shr_tree_huge c = omega (arith, low c, c.before.requires.0.high)
 
-tree_huge_requires : tie.Need-tree-huge-requires
+tree_huge_requires : tie.Need-tree_huge-requires
 tree_huge_requires c κs =
     let s = c.before.args in
-    let tree = s.h + c.tree-log.result in
-    (low c, omega (arith, div-mul-le_self s.frame (2 ^ tree), mul-le-mul_left (s.frame / 2 ^ tree) (pow_mono {i = c.tree-log.result} {j = tree} (omega arith))))
+    let tree = s.h + c.tree_log-k.result in
+    (low c, omega (arith, div-mul-le_self s.frame (2 ^ tree), mul-le-mul_left (s.frame / 2 ^ tree) (pow_mono {i = c.tree_log-k.result} {j = tree} (omega arith))))
 
 returns : tie.Need-returns
 returns c =
     let k = c.before in
     let s = k.before in
-    let log = k.tree-log.ensures in
+    let log = k.tree_log-k.ensures in
     c.tree_huge.ensures ∙ ap₂ (λ (f g : ℕ). s.args.frame / f * g) (tree_frames _ s.requires.1 log _) (log_pow _ s.requires.1 log)
 
 pub tree_first_spec : {M : Type 1} → statement M

@@ -5,7 +5,7 @@ use Rattle.rules.proofs.Trees.{tree_trailing}
 use Rattle.shape.proofs.tree_log.Statement.{statement}
 use Rattle.shape.proofs.tree_log.Tie as tie
 
-cast_result : tie.Need-overflow-cast-result
+cast_result : tie.Need-overflow_cast-result
 cast_result c = omega (arith, trailing_le 64 c.args.t)
 
 returns : tie.Need-returns

@@ -7,16 +7,16 @@ use Rattle.rules.specs.Audit as spec
 use Rattle.staff_h.proofs.audit.Statement.{statement}
 use Rattle.staff_h.proofs.audit.Tie as tie
 
-returns : tie.Need-returns
+returns : tie.Need-returns-then-code-ne0
 unfolding spec.audit
-returns c = refused _ (λ r. spec.fault r 0 0) c.before.sizes.ensures c.if1.true
+returns c = refused _ (λ r. spec.fault r 0 0) c.sizes-code.ensures c.if-code-ne0.true
 
 all_requires : tie.Need-all-requires
-all_requires c κs = (c.before.before.before.before.requires, sized _ _ _ _ (sym c.before.sizes.ensures ∙ c.if1.false))
+all_requires c κs = (c.requires, sized _ _ _ _ (sym c.sizes-code.ensures ∙ c.if-code-ne0.false))
 
-returns_2 : tie.Need-returns-2
+returns_2 : tie.Need-returns
 unfolding spec.audit
-returns_2 c = let k = c.before in answered _ _ (sym k.before.sizes.ensures ∙ k.if1.false) c.all.ensures
+returns_2 c = answered _ _ (sym c.sizes-code.ensures ∙ c.if-code-ne0.false) c.all.ensures
 
 pub audit_spec : {M : Type 1} → statement M
 audit_spec = tie.close (tie.spec (λ c κs. search rules) returns all_requires returns_2)

@@ -7,19 +7,17 @@ use Rattle.rules.specs.Recover as spec
 use Rattle.staff_h.proofs.recover.Statement.{statement}
 use Rattle.staff_h.proofs.recover.Tie as tie
 
-returns : tie.Need-returns
+returns : tie.Need-returns-then-code-ne0
 unfolding spec.recover
-returns c = refuses _ _ (λ r. spec.recovered r 0 0) c.before.sizes.ensures c.if1.true
+returns c = refuses _ _ (λ r. spec.recovered r 0 0) c.sizes-code.ensures c.if-code-ne0.true
 
 all_requires : tie.Need-all-requires
-all_requires c κs = let k = c.before.before in (k.before.before.before.before.requires, sized _ _ _ _ (sym k.before.sizes.ensures ∙ k.if1.false))
+all_requires c κs = (c.requires, sized _ _ _ _ (sym c.sizes-code.ensures ∙ c.if-code-ne0.false))
 
-returns_2 : tie.Need-returns-2
+returns_2 : tie.Need-returns
 unfolding spec.recover
 returns_2 c =
-    let f = c.before.before.before.before in
-    let k = f.before.before.before in
-    does_it _ _ _ (sym k.before.sizes.ensures ∙ k.if1.false) f.all.ensures
+    does_it _ _ _ (sym c.sizes-code.ensures ∙ c.if-code-ne0.false) c.all.ensures
 
 pub recover_spec : {M : Type 1} → statement M
 recover_spec =

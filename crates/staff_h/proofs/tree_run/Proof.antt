@@ -15,37 +15,35 @@ use Rattle.staff_h.proofs.tree_run.Statement.{statement}
 use Rattle.staff_h.proofs.tree_run.Tie as tie
 
 -- past the refusals
-within : (e : tie.Else1)
-    → let s = e.before.before.before.before.args in Framed s.h s.n s.t (lengths_of (mem s.rows.now s.entries.now)) s.frame
-within e = framed _ _ _ _ _ (sym e.before.frame.ensures ∙ e.if1.false)
+within : (e : tie.Else-code-ne0)
+    → let s = e.args in Framed s.h s.n s.t (lengths_of (mem s.rows.now s.entries.now)) s.frame
+within e = framed _ _ _ _ _ (sym e.frame-code.ensures ∙ e.if-code-ne0.false)
 
-returns : tie.Need-returns
+returns : tie.Need-returns-then-code-ne0
 unfolding spec.tree_run
-returns c = let k = c.before in refused _ (λ _. []) k.before.frame.ensures k.if1.true
+returns c = refused _ (λ _. []) c.frame-code.ensures c.if-code-ne0.true
 
-tree_first_requires : tie.Need-tree-first-requires
-tree_first_requires c κs = (c.before.before.before.before.requires, (within c).sized.tree)
+tree_first_requires : tie.Need-tree_first-a-requires
+tree_first_requires c κs = (c.requires, (within c).sized.tree)
 
 -- the tree's entries are lent
-lent : (a : tie.After-tree-first) → let s = a.before.before.before.before.before.args in a.tree-first.result + s.t ≤ length s.entries.now
-lent a = let k = a.before in rw a.tree-first.ensures (frame_tree k.before.before.before.before.requires (within k))
+lent : (a : tie.After-tree_first-a) → let s = a.args in a.tree_first-a.result-1 + s.t ≤ length s.entries.now
+lent a = let k = a.before in rw a.tree_first-a.ensures (frame_tree k.requires (within k))
 
-add_b : tie.Need-overflow-add-b
+add_b : tie.Need-overflow_add-b
 add_b c = omega (arith, lent c)
 
-mul_result : tie.Need-overflow-mul-result
+mul_result : tie.Need-offset_bounds-entries-a
 mul_result c = omega (arith, lent c)
 
-part_result_end_2 : tie.Need-slice-bounds-result-end-2
+part_result_end_2 : tie.Need-slice_bounds-result-end-2
 part_result_end_2 c = lent c
 
-returns_2 : tie.Need-returns-2
+returns_2 : tie.Need-returns
 unfolding spec.tree_run
 returns_2 c =
-    let a = c.before in
-    let k = a.before in
-    let t = k.before.before.before.before.args.t in
-    answered _ _ (sym k.before.frame.ensures ∙ k.if1.false) (rw (add-sub_cancel_left a.tree-first.result t, a.tree-first.ensures))
+    let t = c.args.t in
+    answered _ _ (sym c.frame-code.ensures ∙ c.if-code-ne0.false) (rw (add-sub_cancel_left c.tree_first-a.result-1 t, c.tree_first-a.ensures))
 
 pub tree_run_spec : {M : Type 1} → statement M
 tree_run_spec =

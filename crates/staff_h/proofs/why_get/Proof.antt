@@ -17,50 +17,49 @@ abbrev lent : tie.Start → Mem
 lent s = mem s.args.rows.now s.args.entries.now
 
 -- past the refusals
-module _ (e : tie.Else1) where
+module _ (e : tie.Else-code-ne0) where
   abbrev entry : tie.Start
   entry = e.before.before.before.before
 
   begun : let a = entry.args in Started a.h a.n a.t (lengths_of (lent entry)) a.row a.order
-  begun = started _ _ _ _ _ _ (sym e.before.start.ensures ∙ e.if1.left)
+  begun = started _ _ _ _ _ _ (sym e.start-code.ensures ∙ e.if-code-ne0.false)
 
   within : let a = entry.args in Framed a.h a.n a.t (lengths_of (lent entry)) (a.row * 64)
   within = record { sized = begun.sized; below = begun.begins }
 
 -- and with a tree that is found sound
-consistent : (e : tie.Else2) → let s = entry e.before.before in let a = s.args in ConsistentIn a.h a.n a.t (lent s) (tree_of a.h a.t (a.row * 64))
+consistent : (e : tie.Else-not-sound) → let s = entry e.before.before in let a = s.args in ConsistentIn a.h a.n a.t (lent s) (tree_of a.h a.t (a.row * 64))
 consistent e =
     let k = e.before.before in
-    let b = k.before.before in
-    sound_consistent (lent (entry k)) (entry k).requires (record { rows = λ i. (b.before.shared-slice-known.given i).fits; entries = λ x. (b.shared-slice-known2.given x).fits }) (within k)
-    e.before.sound.ensures e.if2.false
+    sound_consistent (lent (entry k)) (entry k).requires (record { rows = λ i. (k.shared_slice_known-1.given i).fits; entries = λ x. (k.shared_slice_known-2-1.given x).fits }) (within k)
+    e.sound.ensures e.if-not-sound.false
 
-returns : tie.Need-returns
+returns : tie.Need-returns-then-code-ne0
 unfolding spec.why_get
 returns c =
     let s = c.before.before.before.before in
     let a = s.args in
-    tells_refusal _ c.before.start.ensures (spec.sound a.h a.n a.t (lent s) (tree_of a.h a.t (a.row * 64))) c.if1.true
+    tells_refusal _ c.start-code.ensures (spec.sound a.h a.n a.t (lent s) (tree_of a.h a.t (a.row * 64))) c.if-code-ne0.true
 
-mul_sound : tie.Need-overflow-mul-sound
+mul_sound : tie.Need-overflow_mul-row
 mul_sound c = omega (arith, (begun c).begins, (begun c).sized.most)
 
-returns_2 : tie.Need-returns-2
+returns_2 : tie.Need-returns-then-not-sound
 unfolding spec.why_get
-returns_2 c = let k = c.before.before in tells_damage _ k.before.start.ensures k.if1.false c.before.sound.ensures c.if2.true
+returns_2 c = tells_damage _ c.start-code.ensures c.if-code-ne0.false c.sound.ensures c.if-not-sound.true
 
-mul_get : tie.Need-overflow-mul-get
+mul_get : tie.Need-overflow_mul-row-2
 mul_get c = mul_sound c.before.before
 
 get_requires : tie.Need-get-requires
 get_requires c κs = let k = c.before.before in ((entry k).requires, (begun k).top, ((entry k).args.n, within k, consistent c))
 
-returns_3 : tie.Need-returns-3
+returns_3 : tie.Need-returns
 unfolding spec.why_get
 returns_3 c =
     let e = c.before in
     let k = e.before.before in
-    tells_reason _ k.before.start.ensures k.if1.false e.before.sound.ensures e.if2.false (ap (λ (r : ℕ). spec.why 0 r 0) (c.get.ensures (entry k).args.n (consistent e) (within k).below))
+    tells_reason _ k.start-code.ensures k.if-code-ne0.false e.sound.ensures e.if-not-sound.false (ap (λ (r : ℕ). spec.why 0 r 0) (c.get.ensures (entry k).args.n (consistent e) (within k).below))
 
 pub why_get_spec : {M : Type 1} → statement M
 why_get_spec =

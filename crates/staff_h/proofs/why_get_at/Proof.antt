@@ -11,36 +11,34 @@ use Rattle.staff_h.proofs.why_get_at.Statement.{statement}
 use Rattle.staff_h.proofs.why_get_at.Tie as tie
 
 -- past the refusals
-within : (e : tie.Else1)
-    → let s = e.before.before.before.before.args in Blocked s.h s.n s.t (lengths_of (mem s.rows.now s.entries.now)) s.frame s.order
-within e = blocked _ _ _ _ _ _ (sym e.before.block.ensures ∙ e.if1.false)
+within : (e : tie.Else-code-ne0)
+    → let s = e.args in Blocked s.h s.n s.t (lengths_of (mem s.rows.now s.entries.now)) s.frame s.order
+within e = blocked _ _ _ _ _ _ (sym e.block-code.ensures ∙ e.if-code-ne0.false)
 
-returns : tie.Need-returns
+returns : tie.Need-returns-then-code-ne0
 unfolding spec.why_get_at
 returns c =
-    let s = c.before.before.before.before.args in
-    tells_refusal _ c.before.block.ensures (spec.sound s.h s.n s.t (mem s.rows.now s.entries.now) (tree_of s.h s.t s.frame)) c.if1.true
+    let s = c.args in
+    tells_refusal _ c.block-code.ensures (spec.sound s.h s.n s.t (mem s.rows.now s.entries.now) (tree_of s.h s.t s.frame)) c.if-code-ne0.true
 
 sound_requires : tie.Need-sound-requires
-sound_requires c κs = let H = c.before.before.before.before.requires in (H, at_first H (within c))
+sound_requires c κs = let H = c.requires in (H, at_first H (within c))
 
-returns_2 : tie.Need-returns-2
+returns_2 : tie.Need-returns-then-not-sound
 unfolding spec.why_get_at
-returns_2 c = let k = c.before.before in tells_damage _ k.before.block.ensures k.if1.false c.before.sound.ensures c.if2.true
+returns_2 c = tells_damage _ c.block-code.ensures c.if-code-ne0.false c.sound.ensures c.if-not-sound.true
 
-get_at_requires : tie.Need-get-at-requires
+get_at_requires : tie.Need-get_at-requires
 get_at_requires c κs =
     let k = c.before.before in
-    let s = k.before.before.before.before in
-    (s.requires, (s.args.n, s.args.t, within k))
+    (k.requires, (k.args.n, k.args.t, within k))
 
-returns_3 : tie.Need-returns-3
+returns_3 : tie.Need-returns
 unfolding spec.why_get_at
 returns_3 c =
     let e = c.before in
     let k = e.before.before in
-    let s = k.before.before.before.before in
-    tells_reason _ k.before.block.ensures k.if1.false e.before.sound.ensures e.if2.false (c.get_at.ensures s.args.n (within k).ends)
+    tells_reason _ k.block-code.ensures k.if-code-ne0.false e.sound.ensures e.if-not-sound.false (c.get_at.ensures k.args.n (within k).ends)
 
 pub why_get_at_spec : {M : Type 1} → statement M
 why_get_at_spec = tie.close (tie.spec (λ c κs. search rules) returns sound_requires returns_2 get_at_requires returns_3)

@@ -7,27 +7,26 @@ use Rattle.starts.proofs.write_entries.Statement.{statement}
 use Rattle.starts.proofs.write_entries.Tie as tie
 
 -- the entries of whole huge frames are needed
-inside : (c : tie.After-frame-huge) → c.frame-huge.result ≤ c.before.entries-needed.result
-inside c = let k = c.before in rw k.entries-needed.ensures (wholes_needed k.before.before.requires.1.1 c.frame-huge.ensures)
+inside : (c : tie.After-frame_huge-wholes) → c.frame_huge-wholes.result ≤ c.entries_needed-needed.result
+inside c = rw c.entries_needed-needed.ensures (wholes_needed c.requires.1.1 c.frame_huge-wholes.ensures)
 
 fill_requires : tie.Need-fill-requires
-fill_requires c κs = omega (arith, inside c.before, c.before.before.entries-needed.ensures, c.before.before.before.before.requires.1.1.entries)
+fill_requires c κs = omega (arith, inside c.before, c.entries_needed-needed.ensures, c.requires.1.1.entries)
 
-sub_fill : tie.Need-overflow-sub-fill
+sub_fill : tie.Need-overflow_sub-needed
 sub_fill c = inside c.before.before.before.before.before
 
 fill_requires_2 : tie.Need-fill-requires-2
 fill_requires_2 c κs =
     let w = c.before.before.before.before.before in
-    omega (arith, inside w, w.before.entries-needed.ensures, w.before.before.before.requires.1.1.entries)
+    omega (arith, inside w, w.entries_needed-needed.ensures, w.requires.1.1.entries)
 
 returns : tie.Need-returns
 returns c =
     let f = c.before.before.before.before.before.before in
     let w = f.before.before in
-    let s = w.before.before.before in
-    rw (← w.before.entries-needed.ensures, c.before.before.fill2.ensures, f.fill.ensures)
-    (wholes_written s.args.h s.args.n w.frame-huge.ensures s.args.entries.now s.args.v _ (inside w))
+    rw (← w.entries_needed-needed.ensures, c.fill-2.ensures, f.fill.ensures)
+    (wholes_written w.args.h w.args.n w.frame_huge-wholes.ensures w.args.entries.now w.args.v _ (inside w))
 
 pub write_entries_spec : {M : Type 1} → statement M
 write_entries_spec =

@@ -9,43 +9,33 @@ use Rattle.starts.proofs.write_rows.Statement.{statement}
 use Rattle.starts.proofs.write_rows.Tie as tie
 
 -- the border's row is needed, or ends those that are
-border_low : (k : tie.After-rows-needed) → k.before.before.args.c / 64 ≤ k.rows-needed.result
-border_low k = let s = k.before.before in omega (arith, k.rows-needed.ensures, rows_enough s.requires.0 s.args.n, s.requires.2)
+border_low : (k : tie.After-rows_needed-needed) → k.args.c / 64 ≤ k.rows_needed-needed.result
+border_low k = omega (arith, k.rows_needed-needed.ensures, rows_enough k.requires.0 k.args.n, k.requires.2)
 
-part_fill_rows_end : tie.Need-slice-bounds-fill-rows-end
+part_fill_rows_end : tie.Need-slice_bounds-fill_rows-end
 part_fill_rows_end c = omega (arith, border_low c.before)
 
-sub_fill_rows_2 : tie.Need-overflow-sub-fill-rows-2
+sub_fill_rows_2 : tie.Need-slice_bounds-fill_rows-count-2
 sub_fill_rows_2 c = omega (arith, border_low c.before.before.before.before.before)
 
-part_fill_rows_start_2 : tie.Need-slice-bounds-fill-rows-start-2
+part_fill_rows_start_2 : tie.Need-slice_bounds-fill_rows-start-2
 part_fill_rows_start_2 c = omega (arith, border_low c.before.before.before.before.before)
 
-returns : tie.Need-returns
+returns : tie.Need-returns-then-border-needed
 returns c =
-    let g = c.before.before.before in
-    let f = g.before.before.before.before in
-    let i = f.before.before in
-    let k = i.before in
-    let s = k.before.before in
-    rows_whole s.requires.0 _ _ _ _ s.args.rows.now (λ j. (k.before.slice-known.given j).fits) k.rows-needed.ensures i.frame_row.ensures
-    (omega (arith, k.rows-needed.ensures)) s.requires.2 f.fill-rows.ensures g.fill-rows2.ensures c.if1.true
+    rows_whole c.requires.0 _ _ _ _ c.args.rows.now (λ j. (c.slice_known-1.given j).fits) c.rows_needed-needed.ensures c.frame_row-border.ensures
+    (omega (arith, c.rows_needed-needed.ensures)) c.requires.2 c.fill_rows.ensures c.fill_rows-2.ensures c.if-border-needed.true
 
-slice_write_rows : tie.Need-slice-write-rows
+slice_write_rows : tie.Need-bounds-rows-border
 slice_write_rows c = omega (arith, border_low c.before.before.before.before.before.before.before.before.before.before.before)
 
-same_length_2 : tie.Need-same-length-2
+same_length_2 : tie.Need-shape_of-rows
 same_length_2 c = simp length-set (omega arith)
 
-returns_2 : tie.Need-returns-2
+returns_2 : tie.Need-returns
 returns_2 c =
-    let g = c.before.before.before.before in
-    let f = g.before.before.before.before in
-    let i = f.before.before in
-    let k = i.before in
-    let s = k.before.before in
-    rows_border s.requires.0 _ _ _ _ s.args.rows.now (λ j. (k.before.slice-known.given j).fits) k.rows-needed.ensures i.frame_row.ensures
-    (omega (arith, k.rows-needed.ensures)) s.requires.2 f.fill-rows.ensures g.fill-rows2.ensures c.before.if1.false c.frame-bit.ensures
+    rows_border c.requires.0 _ _ _ _ c.args.rows.now (λ j. (c.slice_known-1.given j).fits) c.rows_needed-needed.ensures c.frame_row-border.ensures
+    (omega (arith, c.rows_needed-needed.ensures)) c.requires.2 c.fill_rows.ensures c.fill_rows-2.ensures c.if-border-needed.false c.frame_bit-clear.ensures
 
 pub write_rows_spec : {M : Type 1} → statement M
 write_rows_spec =

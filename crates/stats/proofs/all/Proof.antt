@@ -12,47 +12,38 @@ use Rattle.stats.proofs.all.Statement.{statement}
 use Rattle.stats.proofs.all.Tie as tie
 
 -- the needed entries are lent, and few enough to be summed in 32 bits and counted in 16
-lent : (a : tie.After-entries-needed) → (a.entries-needed.result ≤ length a.before.before.args.entries.now) × (a.entries-needed.result < 65536)
-lent a = let pre = a.before.before.requires in rw a.entries-needed.ensures (pre.1.1.entries, entries_few pre.1.1 pre.0)
+lent : (a : tie.After-entries_needed-needed) → (a.entries_needed-needed.result ≤ length a.args.entries.now) × (a.entries_needed-needed.result < 65536)
+lent a = let pre = a.requires in rw a.entries_needed-needed.ensures (pre.1.1.entries, entries_few pre.1.1 pre.0)
 
-blocks_requires : tie.Need-blocks-requires
+blocks_requires : tie.Need-blocks-free-requires
 blocks_requires c κs = (omega (arith, lent c), (lent c).1, omega arith)
 
-count_of_requires : tie.Need-count-of-requires
+count_of_requires : tie.Need-count_of-huge-requires
 count_of_requires c κs = lent c.before.before
 
 size_requires : tie.Need-size-requires
 size_requires c κs =
-    let pre = c.before.before.before.before.before.before.before.requires in
-    omega (arith, c.top-order.ensures, top_low _ pre.1.1.tree refl pre.0)
+    let pre = c.requires in
+    omega (arith, c.top_order.ensures, top_low _ pre.1.1.tree refl pre.0)
 
-huge_tree_requires : tie.Need-huge-tree-requires
-huge_tree_requires c κs = log_low _ c.before.before.before.before.before.before.before.before.before.requires.1.1.tree c.tree-log.ensures
+huge_tree_requires : tie.Need-huge_tree-requires
+huge_tree_requires c κs = log_low _ c.requires.1.1.tree c.tree_log.ensures
 
-free_trees_by_size_requires : tie.Need-free-trees-by-size-requires
+free_trees_by_size_requires : tie.Need-free_trees_by_size-trees-requires
 free_trees_by_size_requires c κs =
-    let a = c.before.before.before.before.before.before.before.before in
-    let s = a.before.before.requires.1.1 in
-    (trees_lent s c.before.tree-log.ensures a.entries-needed.ensures c.huge-tree.ensures, tree_high _ s.tree)
+    let s = c.requires.1.1 in
+    (trees_lent s c.tree_log.ensures c.entries_needed-needed.ensures c.huge_tree.ensures, tree_high _ s.tree)
 
-returns : tie.Need-returns
+returns : tie.Need-returns-then-t-ne1
 returns c =
-    let k = c.before.before in
-    let z = k.before in
-    let n = z.before.before.before in
-    let a = n.before.before.before in
-    let s = a.before.before in
-    all_of_trees s.requires.1.1 a.entries-needed.ensures s.args.entries.now n.before.before.blocks2.ensures n.count_of.ensures n.before.whole.ensures
-    c.free-trees-by-size.ensures (z.size.ensures ∙ ap (λ (o : ℕ). 2 ^ o) z.before.top-order.ensures)
-    (needed_trees s.requires.1.1 k.tree-log.ensures a.entries-needed.ensures c.before.huge-tree.ensures)
+    all_of_trees c.requires.1.1 c.entries_needed-needed.ensures c.args.entries.now c.blocks-free.ensures c.count_of-huge.ensures c.whole.ensures
+    c.free_trees_by_size-trees.ensures (c.size.ensures ∙ ap (λ (o : ℕ). 2 ^ o) c.top_order.ensures)
+    (needed_trees c.requires.1.1 c.tree_log.ensures c.entries_needed-needed.ensures c.huge_tree.ensures)
 
-returns_2 : tie.Need-returns-2
+returns_2 : tie.Need-returns-else-t-ne1
 returns_2 c =
-    let n = c.before in
-    let a = n.before.before.before in
-    let s = a.before.before in
-    all_of_one s.requires.1.1 a.entries-needed.ensures s.args.entries.now n.before.before.blocks2.ensures n.count_of.ensures n.before.whole.ensures
-    s.requires.0 c.if1.false
+    all_of_one c.requires.1.1 c.entries_needed-needed.ensures c.args.entries.now c.blocks-free.ensures c.count_of-huge.ensures c.whole.ensures
+    c.requires.0 c.if-t-ne1.false
 
 pub all_spec : {M : Type 1} → statement M
 all_spec =

@@ -8,22 +8,20 @@ use Rattle.stats.proofs.Cases.{tree_counted}
 use Rattle.stats.proofs.at_tree.Statement.{statement}
 use Rattle.stats.proofs.at_tree.Tie as tie
 
-blocks_requires : tie.Need-blocks-requires
-blocks_requires c κs = let pre = c.before.before.requires in (rw c.tree-first.ensures pre.2, omega (arith, tree_high _ pre.1), omega arith)
+blocks_requires : tie.Need-blocks-free-requires
+blocks_requires c κs = let pre = c.requires in (rw c.tree_first-first.ensures pre.2, omega (arith, tree_high _ pre.1), omega arith)
 
-blocks_requires_2 : tie.Need-blocks-requires-2
+blocks_requires_2 : tie.Need-blocks-requires
 blocks_requires_2 c κs =
-    let pre = c.before.before.before.requires in
-    (rw c.before.tree-first.ensures pre.2, omega (arith, tree_high _ pre.1), omega (arith, pre.0.high))
+    let pre = c.requires in
+    (rw c.tree_first-first.ensures pre.2, omega (arith, tree_high _ pre.1), omega (arith, pre.0.high))
 
-shr_t9 : tie.Need-overflow-shr-t9
-shr_t9 c = let pre = c.before.before.before.before.before.requires in omega (arith, c.top-order.ensures, top_low _ pre.1 refl pre.0)
+shr_t9 : tie.Need-overflow_shr-result
+shr_t9 c = let pre = c.requires in omega (arith, c.top_order.ensures, top_low _ pre.1 refl pre.0)
 
 returns : tie.Need-returns
 returns c =
-    let a = c.before.before in
-    let s = a.before.before.before in
-    tree_counted _ _ _ s.requires.1 a.before.tree-first.ensures c.top-order.ensures s.args.entries.now a.blocks2.ensures c.before.blocks3.ensures
+    tree_counted _ _ _ c.requires.1 c.tree_first-first.ensures c.top_order.ensures c.args.entries.now c.blocks-free.ensures c.blocks-2.ensures
 
 pub at_tree_spec : {M : Type 1} → statement M
 at_tree_spec =

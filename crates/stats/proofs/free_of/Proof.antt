@@ -4,7 +4,7 @@ use Rattle.stats.proofs.free_of.Statement.{statement}
 use Rattle.stats.proofs.free_of.Tie as tie
 
 returns : tie.Need-returns
-returns c = rw (← c.before.before.frame-huge.ensures) c.free.ensures
+returns c = rw (← c.frame_huge.ensures) c.free.ensures
 
 pub free_of_spec : {M : Type 1} → statement M
 free_of_spec = tie.close (tie.spec (λ c κs. search rules) (λ c. search rules) (λ c. search rules) (λ c κs. search rules) (λ c. search rules) returns)

@@ -3,17 +3,17 @@ use borrow.Author.Rules.{rules}
 use Rattle.stats.proofs.free_trees_by_size.Statement.{statement}
 use Rattle.stats.proofs.free_trees_by_size.Tie as tie
 
-free_trees_requires : tie.Need-free-trees-requires
-free_trees_requires c κs = rw c.if1.true at c.before.before.requires
+free_trees_requires : tie.Need-free_trees-requires
+free_trees_requires c κs = rw c.if-t-eq2.true at c.requires
 
-returns : tie.Need-returns
-returns c = rw c.before.if1.true c.free-trees.ensures
+returns : tie.Need-returns-then-t-eq2
+returns c = rw c.if-t-eq2.true c.free_trees.ensures
 
-free_trees_requires_2 : tie.Need-free-trees-requires-2
-free_trees_requires_2 c κs = rw c.if2.true at c.before.before.before.requires
+free_trees_requires_2 : tie.Need-free_trees-requires-then-t-eq4
+free_trees_requires_2 c κs = rw c.if-t-eq4.true at c.requires
 
-returns_2 : tie.Need-returns-2
-returns_2 c = rw c.before.if2.true c.free-trees2.ensures
+returns_2 : tie.Need-returns-then-t-eq4
+returns_2 c = rw c.if-t-eq4.true c.free_trees-then-t-eq4.ensures
 
 pub free_trees_by_size_spec : {M : Type 1} → statement M
 free_trees_by_size_spec =

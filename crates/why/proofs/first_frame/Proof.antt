@@ -16,108 +16,106 @@ use Rattle.why.proofs.Blocks.{part_asked, part_ends}
 use Rattle.why.proofs.first_frame.Statement.{statement}
 use Rattle.why.proofs.first_frame.Tie as tie
 
-abbrev invariant_loop : tie.invariant_loop
+abbrev invariant_loop : tie.invariant-loop-at
 invariant_loop h rows entries frame order held size end at₀ at = (at ≤ end) × (at % 2 ^ h ≡ 0) × FirstFrom (frame_is held h (mem rows entries)) end frame at
 
-abbrev decreases_loop : tie.decreases_loop
+abbrev decreases_loop : tie.decreases-loop-at
 decreases_loop h rows entries frame order held size end at₀ at = end - at
 
-first_in_huge_requires : tie.Need-first-in-huge-requires invariant_loop decreases_loop
+first_in_huge_requires : tie.Need-first_in_huge-requires invariant_loop decreases_loop
 first_in_huge_requires c κs =
-    let s = c.before.before.before in
-    let b = s.requires.1.2 in
-    part_asked (mem s.args.rows.now s.args.entries.now) s.requires.0 b.sized s.args.frame s.args.order c.if1.true b.aligned b.ends
+    let b = c.requires.1.2 in
+    part_asked (mem c.args.rows.now c.args.entries.now) c.requires.0 b.sized c.args.frame c.args.order c.if-order-h.true b.aligned b.ends
 
 -- ---- above the huge order
 
 -- the function's entry, from where the sizes are known
-abbrev entry : tie.After-size2 invariant_loop decreases_loop → tie.Start invariant_loop decreases_loop
+abbrev entry : tie.After-size invariant_loop decreases_loop → tie.Start invariant_loop decreases_loop
 entry z = z.before.before.before.before.before
 
-size_requires_2 : tie.Need-size-requires-2 invariant_loop decreases_loop
+size_requires_2 : tie.Need-size-requires invariant_loop decreases_loop
 size_requires_2 c κs =
-    let s = c.before.before.before.before in
-    let b = s.requires.1.2 in
-    omega (arith, order_low s.args.order b.sized b.top, s.requires.0.high)
+    let b = c.requires.1.2 in
+    omega (arith, order_low c.args.order b.sized b.top, c.requires.0.high)
 
-add_end : tie.Need-overflow-add-end invariant_loop decreases_loop
-add_end c = let b = (entry c).requires.1.2 in omega (arith, c.size2.ensures, b.ends, b.sized.most)
+add_end : tie.Need-overflow_add-end invariant_loop decreases_loop
+add_end c = let b = (entry c).requires.1.2 in omega (arith, c.size.ensures, b.ends, b.sized.most)
 
-loop_holds : tie.Need-loop-init invariant_loop decreases_loop
+loop_holds : tie.Need-loop-at-init invariant_loop decreases_loop
 loop_holds c =
     let s = entry c in
     let h = s.args.h in
     let o = s.args.order in
-    let even : s.args.frame % 2 ^ h ≡ 0 = sym (rest_by_less s.args.frame h o (omega (arith, c.before.before.if1.false))) ∙ ap (λ (r : ℕ). r % 2 ^ h) s.pre.1.2.aligned ∙ zero-mod (2 ^ h) in
+    let even : s.args.frame % 2 ^ h ≡ 0 = sym (rest_by_less s.args.frame h o (omega (arith, c.if-order-h.false))) ∙ ap (λ (r : ℕ). r % 2 ^ h) s.requires.1.2.aligned ∙ zero-mod (2 ^ h) in
     (omega arith, even, refl)
 
 -- a turn's huge frame ends in the block, and so below N
-ends : (k : tie.In-loop invariant_loop decreases_loop) → let a = k.before in let s = (entry a.before).args in a.loop.at + 2 ^ s.h ≤ s.frame + 2 ^ s.order
+ends : (k : tie.In-loop-at invariant_loop decreases_loop) → let a = k.before in let s = (entry a.before).args in a.loop-at.at + 2 ^ s.h ≤ s.frame + 2 ^ s.order
 ends k =
     let a = k.before in
     let z = a.before in
     let s = entry z in
-    part_ends s.args.h s.args.frame s.args.order (omega (arith, z.before.before.if1.false)) s.pre.1.2.aligned a.loop.at a.loop.invariant.1
-    (omega (arith, k.loop-test.true, z.size2.ensures))
+    part_ends s.args.h s.args.frame s.args.order (omega (arith, z.if-order-h.false)) s.requires.1.2.aligned a.loop-at.at a.loop-at.invariant.1
+    (omega (arith, k.loop-at-test.true, z.size.ensures))
 
-first_in_huge_requires_2 : tie.Need-first-in-huge-requires-2 invariant_loop decreases_loop
+first_in_huge_requires_2 : tie.Need-first_in_huge-found-requires invariant_loop decreases_loop
 first_in_huge_requires_2 c κs =
     let a = c.before in
     let s = entry a.before in
-    let b = s.pre.1.2 in
-    part_asked (mem s.args.rows.now s.args.entries.now) s.pre.0 b.sized a.loop.at s.args.h (omega arith) a.loop.invariant.1 (omega (arith, ends c, b.ends))
+    let b = s.requires.1.2 in
+    part_asked (mem s.args.rows.now s.args.entries.now) s.requires.0 b.sized a.loop-at.at s.args.h (omega arith) a.loop-at.invariant.1 (omega (arith, ends c, b.ends))
 
 -- the frames from the block's first up to its end
-many : (z : tie.After-size2 invariant_loop decreases_loop) → let s = (entry z).args in s.frame + z.size2.result - s.frame ≡ 2 ^ s.order
-many z = add-sub_cancel_left (entry z).args.frame z.size2.result ∙ z.size2.ensures
+many : (z : tie.After-size invariant_loop decreases_loop) → let s = (entry z).args in s.frame + z.size.result - s.frame ≡ 2 ^ s.order
+many z = add-sub_cancel_left (entry z).args.frame z.size.result ∙ z.size.ensures
 
 -- the turn's huge frame, in the code's sizes: where it ends, and what was found in it
-module _ (c : tie.After-first-in-huge2 invariant_loop decreases_loop) where
-  abbrev turn : tie.At-loop invariant_loop decreases_loop
+module _ (c : tie.After-first_in_huge-found invariant_loop decreases_loop) where
+  abbrev turn : tie.At-loop-at invariant_loop decreases_loop
   turn = c.before.before
 
-  abbrev sizes : tie.After-size2 invariant_loop decreases_loop
+  abbrev sizes : tie.After-size invariant_loop decreases_loop
   sizes = turn.before
 
-  within : turn.loop.at + sizes.before.size.result ≤ (entry sizes).args.frame + sizes.size2.result
-  within = omega (arith, ends c.before, sizes.before.size.ensures, sizes.size2.ensures)
+  within : turn.loop-at.at + sizes.size-size.result ≤ (entry sizes).args.frame + sizes.size.result
+  within = omega (arith, ends c.before, sizes.size-size.ensures, sizes.size.ensures)
 
-  found : let s = (entry sizes).args in c.first-in-huge2.result ≡ first (frame_is s.held s.h (mem s.rows.now s.entries.now)) sizes.before.size.result turn.loop.at
+  found : let s = (entry sizes).args in c.first_in_huge-found.result ≡ first (frame_is s.held s.h (mem s.rows.now s.entries.now)) sizes.size-size.result turn.loop-at.at
   found =
       let s = (entry sizes).args in
-      c.first-in-huge2.ensures ∙ ap (λ (k : ℕ). first (frame_is s.held s.h (mem s.rows.now s.entries.now)) k turn.loop.at) (sym sizes.before.size.ensures)
+      c.first_in_huge-found.ensures ∙ ap (λ (k : ℕ). first (frame_is s.held s.h (mem s.rows.now s.entries.now)) k turn.loop-at.at) (sym sizes.size-size.ensures)
 
-add_if2 : tie.Need-overflow-add-if2 invariant_loop decreases_loop
+add_if2 : tie.Need-overflow_add-at invariant_loop decreases_loop
 add_if2 c = omega (arith, within c)
 
-returns_2 : tie.Need-returns-2 invariant_loop decreases_loop
+returns_2 : tie.Need-returns-then-found-at invariant_loop decreases_loop
 returns_2 c =
     let k = c.before in
-    rw (← many (sizes k)) (part_found _ _ _ _ _ (turn k).loop.invariant.2 (within k) (found k) c.if2.true)
+    rw (← many (sizes k)) (part_found _ _ _ _ _ (turn k).loop-at.invariant.2 (within k) (found k) c.if-found-at.true)
 
-add_at : tie.Need-overflow-add-at invariant_loop decreases_loop
+add_at : tie.Need-overflow_add-at-in-loop-at invariant_loop decreases_loop
 add_at c = omega (arith, within c.before)
 
-loop_less : tie.Need-loop-smaller invariant_loop decreases_loop
+loop_less : tie.Need-loop-at-smaller invariant_loop decreases_loop
 loop_less c =
     let k = c.before in
     let s = entry (sizes k) in
-    omega (arith, k.before.loop-test.true, (sizes k).before.size.ensures, pow_pos s.args.h)
+    omega (arith, k.loop-at-test.true, (sizes k).size-size.ensures, pow_pos s.args.h)
 
-loop_again : tie.Need-loop-preserved invariant_loop decreases_loop
+loop_again : tie.Need-loop-at-preserved invariant_loop decreases_loop
 loop_again c =
     let k = c.before in
     let h = (entry (sizes k)).args.h in
-    let next : ((turn k).loop.at + (sizes k).before.size.result) % 2 ^ h ≡ 0 =
-    ap (λ (x : ℕ). ((turn k).loop.at + x) % 2 ^ h) (sizes k).before.size.ensures ∙ add-mod_right (turn k).loop.at (2 ^ h) ∙ (turn k).loop.invariant.1 in
-    (within k, next, part_passed _ _ _ _ _ (turn k).loop.invariant.2 (within k) (found k) c.if2.false)
+    let next : ((turn k).loop-at.at + (sizes k).size-size.result) % 2 ^ h ≡ 0 =
+    ap (λ (x : ℕ). ((turn k).loop-at.at + x) % 2 ^ h) (sizes k).size-size.ensures ∙ add-mod_right (turn k).loop-at.at (2 ^ h) ∙ (turn k).loop-at.invariant.1 in
+    (within k, next, part_passed _ _ _ _ _ (turn k).loop-at.invariant.2 (within k) (found k) c.if-found-at.false)
 
-returns_3 : tie.Need-returns-3 invariant_loop decreases_loop
+returns_3 : tie.Need-returns invariant_loop decreases_loop
 returns_3 c =
     let a = c.before in
     let z = a.before in
-    let last : (entry z).args.frame + z.size2.result ≡ a.loop.at = omega (arith, a.loop.invariant.0, c.loop-test.false) in
-    rw (← many z) (last ∙ from_none _ _ _ _ a.loop.invariant.2 c.loop-test.false)
+    let last : (entry z).args.frame + z.size.result ≡ a.loop-at.at = omega (arith, a.loop-at.invariant.0, c.loop-at-test.false) in
+    rw (← many z) (last ∙ from_none _ _ _ _ a.loop-at.invariant.2 c.loop-at-test.false)
 
 pub first_frame_spec : {M : Type 1} → statement M
 first_frame_spec =

@@ -11,29 +11,29 @@ abbrev lent : tie.Start → Mem
 lent s = mem s.args.rows.now s.args.entries.now
 
 -- the entry that is read is that of the block's huge frame
-own : (c : tie.After-frame-huge) → let s = c.before.before.before.args in entry_of s.entries.now c.frame-huge.result ≡ entry_of s.entries.now (huge_of s.h s.frame)
-own c = ap (entry_of c.before.before.before.args.entries.now) c.frame-huge.ensures
+own : (c : tie.After-frame_huge) → let s = c.args in entry_of s.entries.now c.frame_huge.result ≡ entry_of s.entries.now (huge_of s.h s.frame)
+own c = ap (entry_of c.args.entries.now) c.frame_huge.ensures
 
-returns : tie.Need-returns
+returns : tie.Need-returns-then-held
 returns c =
     let x = c.before.before.before in
     let s = x.before.before.before in
     let p = s.requires in
-    marked_held _ (lent s) _ _ p.1 p.2.aligned (sym (own x) ∙ c.before.if1.true) c.if2.true
+    marked_held _ (lent s) _ _ p.1 p.2.aligned (sym (own x) ∙ c.if-entries-frame_huge.true) c.if-held.true
 
-returns_2 : tie.Need-returns-2
+returns_2 : tie.Need-returns-then-entries-frame_huge
 returns_2 c =
     let t = c.before.before in
     let x = t.before.before in
     let s = x.before.before.before in
     let p = s.requires in
-    marked_free _ (lent s) _ _ p.1 p.2.aligned (sym (own x) ∙ t.if1.true) c.before.if2.false c.size.ensures
+    marked_free _ (lent s) _ _ p.1 p.2.aligned (sym (own x) ∙ t.if-entries-frame_huge.true) c.if-held.false c.size.ensures
 
-returns_3 : tie.Need-returns-3
+returns_3 : tie.Need-returns
 returns_3 c =
     let x = c.before.before.before in
     let s = x.before.before.before in
-    c.block-first.ensures ∙ unmarked_bits _ (lent s) _ _ s.requires.1 s.requires.2.aligned (λ e. c.before.if1.false (own x ∙ e)) s.args.held
+    c.block_first.ensures ∙ unmarked_bits _ (lent s) _ _ s.requires.1 s.requires.2.aligned (λ e. c.if-entries-frame_huge.false (own x ∙ e)) s.args.held
 
 pub first_in_huge_spec : {M : Type 1} → statement M
 first_in_huge_spec =

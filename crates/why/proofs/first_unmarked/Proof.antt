@@ -12,34 +12,34 @@ use Rattle.rules.specs.Why.{unmarked}
 use Rattle.why.proofs.first_unmarked.Statement.{statement}
 use Rattle.why.proofs.first_unmarked.Tie as tie
 
-abbrev invariant_loop : tie.invariant_loop
+abbrev invariant_loop : tie.invariant-loop-x
 invariant_loop entries at g end x₀ x = (x ≤ end) × FirstFrom (unmarked entries) end at x
 
-abbrev decreases_loop : tie.decreases_loop
+abbrev decreases_loop : tie.decreases-loop-x
 decreases_loop entries at g end x₀ x = end - x
 
 -- the entries up to the end are g
 many : (s : tie.Start invariant_loop decreases_loop) → let a = s.args in first (unmarked a.entries.now) (a.at + a.g - a.at) a.at ≡ first (unmarked a.entries.now) a.g a.at
 many s = let a = s.args in ap (λ (k : ℕ). first (unmarked a.entries.now) k a.at) (add-sub_cancel_left a.at a.g)
 
-loop_holds : tie.Need-loop-init invariant_loop decreases_loop
+loop_holds : tie.Need-loop-x-init invariant_loop decreases_loop
 loop_holds c = (omega arith, refl)
 
-returns : tie.Need-returns invariant_loop decreases_loop
+returns : tie.Need-returns-then-entries-x invariant_loop decreases_loop
 returns c =
     let a = c.before.before.before in
-    from_found _ _ _ _ a.loop.invariant.1 c.before.before.loop-test.true (ap not (ne_eqb _ _ c.if1.true)) ∙ many a.before
+    from_found _ _ _ _ a.loop-x.invariant.1 c.loop-x-test.true (ap not (ne_eqb _ _ c.if-entries-x.true)) ∙ many a.before
 
-loop_again : tie.Need-loop-preserved invariant_loop decreases_loop
+loop_again : tie.Need-loop-x-preserved invariant_loop decreases_loop
 loop_again c =
-    let l = c.before.before.loop-test.true in
-    (omega (arith, l), from_more _ _ _ _ c.before.before.before.loop.invariant.1 l (ap not (eq-eqb _ _ c.if1.false)))
+    let l = c.loop-x-test.true in
+    (omega (arith, l), from_more _ _ _ _ c.loop-x.invariant.1 l (ap not (eq-eqb _ _ c.if-entries-x.false)))
 
-returns_2 : tie.Need-returns-2 invariant_loop decreases_loop
+returns_2 : tie.Need-returns invariant_loop decreases_loop
 returns_2 c =
     let a = c.before in
-    let last : a.before.args.at + a.before.args.g ≡ a.loop.x = omega (arith, a.loop.invariant.0, c.loop-test.false) in
-    last ∙ from_none _ _ _ _ a.loop.invariant.1 c.loop-test.false ∙ many a.before
+    let last : a.args.at + a.args.g ≡ a.loop-x.x = omega (arith, a.loop-x.invariant.0, c.loop-x-test.false) in
+    last ∙ from_none _ _ _ _ a.loop-x.invariant.1 c.loop-x-test.false ∙ many a.before
 
 pub first_unmarked_spec : {M : Type 1} → statement M
 first_unmarked_spec =

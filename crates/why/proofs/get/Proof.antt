@@ -15,7 +15,7 @@ use Rattle.why.proofs.get.Statement.{statement}
 use Rattle.why.proofs.get.Tie as tie
 
 -- the function's entry, from where the tree's first huge frame is known
-abbrev entry : tie.After-tree-first → tie.Start
+abbrev entry : tie.After-tree_first-first → tie.Start
 entry f = f.before.before.before
 
 -- the tree is one of those that n frames need
@@ -24,56 +24,56 @@ covered : (s : tie.Start) (n : ℕ) → let a = s.args in ConsistentIn a.h n a.t
 covered s n c l = let a = s.args in tree_covers a.h n a.t a.frame (tree_pos a.t c.sized.tree) l
 
 -- its entries are lent
-lent : (f : tie.After-tree-first) → f.tree-first.result + (entry f).args.t ≤ length (entry f).args.entries.now
-lent f = let p = (entry f).requires in omega (arith, f.tree-first.ensures, frame_tree p.0 p.2.1)
+lent : (f : tie.After-tree_first-first) → f.tree_first-first.result + (entry f).args.t ≤ length (entry f).args.entries.now
+lent f = let p = (entry f).requires in omega (arith, f.tree_first-first.ensures, frame_tree p.0 p.2.1)
 
 blocks_requires : tie.Need-blocks-requires
-blocks_requires c κs = let s = entry c in (lent c, omega (arith, tree_high s.args.t s.pre.2.1.sized.tree), omega arith)
+blocks_requires c κs = let s = entry c in (lent c, omega (arith, tree_high s.args.t s.requires.2.1.sized.tree), omega arith)
 
 size_requires : tie.Need-size-requires
-size_requires c κs = let s = entry c.before in omega (arith, order_low s.args.order s.pre.2.1.sized s.pre.1, s.pre.0.high)
+size_requires c κs = let s = entry c.before in omega (arith, order_low s.args.order s.requires.2.1.sized s.requires.1, s.requires.0.high)
 
-returns : tie.Need-returns
+returns : tie.Need-returns-then-blocks-size
 returns c n k l =
     let z = c.before in
     let f = z.before.before in
-    get_few (entry f).requires.0 k (covered (entry f) n k l) f.tree-first.ensures _ z.before.blocks2.ensures z.size.ensures c.if1.true
+    get_few (entry f).requires.0 k (covered (entry f) n k l) f.tree_first-first.ensures _ z.blocks-2.ensures z.size.ensures c.if-blocks-size.true
 
-get_small_requires : tie.Need-get-small-requires
+get_small_requires : tie.Need-get_small-requires
 get_small_requires c κs =
     let f = c.before.before.before.before in
     let s = entry f in
-    let p = s.pre.2 in
-    (s.pre.0, c.if2.true, lent f, free_rows s.pre.0 p.2 (covered s p.0 p.2 p.1.below) f.tree-first.ensures)
+    let p = s.requires.2 in
+    (s.requires.0, c.if-order-h.true, lent f, free_rows s.requires.0 p.2 (covered s p.0 p.2 p.1.below) f.tree_first-first.ensures)
 
-returns_2 : tie.Need-returns-2
+returns_2 : tie.Need-returns-then-order-h
 returns_2 c n k l =
     let e = c.before.before in
     let z = e.before in
     let f = z.before.before in
-    get_small_lem (entry f).requires.0 k (covered (entry f) n k l) f.tree-first.ensures _ z.before.blocks2.ensures z.size.ensures e.if1.false c.before.if2.true c.get_small_lem.ensures
+    get_small_lem (entry f).requires.0 k (covered (entry f) n k l) f.tree_first-first.ensures _ z.blocks-2.ensures z.size.ensures e.if-blocks-size.false c.if-order-h.true c.get_small.ensures
 
-at_order_requires : tie.Need-at-order-requires
+at_order_requires : tie.Need-at_order-requires
 at_order_requires c κs =
     let f = c.before.before.before.before.before in
     let s = entry f in
-    (s.pre.0, s.pre.2.1.sized.tree, c.top-order.ensures, lent f)
+    (s.requires.0, s.requires.2.1.sized.tree, c.top_order.ensures, lent f)
 
-returns_3 : tie.Need-returns-3
+returns_3 : tie.Need-returns-then-at_order-eq0
 returns_3 c n k l =
     let g = c.before.before.before in
     let z = g.before.before in
     let f = z.before.before in
     let s = entry f in
-    get_none s.pre.0 k (covered s n k l) f.tree-first.ensures _ z.before.blocks2.ensures z.size.ensures g.before.if1.false g.if2.false s.pre.1 c.before.at-order.ensures c.if3.true
+    get_none s.requires.0 k (covered s n k l) f.tree_first-first.ensures _ z.blocks-2.ensures z.size.ensures g.if-blocks-size.false g.if-order-h.false s.requires.1 c.at_order.ensures c.if-at_order-eq0.true
 
-returns_4 : tie.Need-returns-4
+returns_4 : tie.Need-returns
 returns_4 c n k l =
     let g = c.before.before.before in
     let z = g.before.before in
     let f = z.before.before in
     let s = entry f in
-    get_some s.pre.0 k (covered s n k l) f.tree-first.ensures _ z.before.blocks2.ensures z.size.ensures g.before.if1.false g.if2.false s.pre.1 c.before.at-order.ensures c.if3.false
+    get_some s.requires.0 k (covered s n k l) f.tree_first-first.ensures _ z.blocks-2.ensures z.size.ensures g.if-blocks-size.false g.if-order-h.false s.requires.1 c.at_order.ensures c.if-at_order-eq0.false
 
 pub get_spec : {M : Type 1} → statement M
 get_spec =

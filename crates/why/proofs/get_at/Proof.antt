@@ -7,13 +7,13 @@ use Rattle.why.proofs.get_at.Statement.{statement}
 use Rattle.why.proofs.get_at.Tie as tie
 
 size_requires : tie.Need-size-requires
-size_requires c κs = let s = c.before.before.before in let b = s.requires.1.2 in omega (arith, order_low s.args.order b.sized b.top, s.requires.0.high)
+size_requires c κs = let b = c.requires.1.2 in omega (arith, order_low c.args.order b.sized b.top, c.requires.0.high)
 
-returns : tie.Need-returns
-returns c n l = get_at_held _ n _ _ _ l c.before.size.ensures c.before.before.first_frame.ensures c.if1.true
+returns : tie.Need-returns-then-found-frame
+returns c n l = get_at_held _ n _ _ _ l c.size.ensures c.first_frame-found.ensures c.if-found-frame.true
 
-returns_2 : tie.Need-returns-2
-returns_2 c n l = get_at_free _ n _ _ _ l c.before.size.ensures c.before.before.first_frame.ensures c.if1.false
+returns_2 : tie.Need-returns
+returns_2 c n l = get_at_free _ n _ _ _ l c.size.ensures c.first_frame-found.ensures c.if-found-frame.false
 
 pub get_at_spec : {M : Type 1} → statement M
 get_at_spec = tie.close (tie.spec (λ c κs. search rules) size_requires (λ c. search rules) returns returns_2)

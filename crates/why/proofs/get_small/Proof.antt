@@ -7,49 +7,52 @@ use borrow.Author.Rules.{rules}
 use Rattle.rules.specs.State.{mem}
 use Rattle.why.proofs.Searches.{SmallAt, small_start, small_end, small_few, small_found, small_none}
 use Rattle.why.proofs.get_small.Statement.{statement}
+use Rattle.why.proofs.get_small.Lts.{then-size-free+else-first_zeros-eq0, else-size-free}
 use Rattle.why.proofs.get_small.Tie as tie
 
-abbrev invariant_loop : tie.invariant_loop
+abbrev invariant_loop : tie.invariant-loop-i
 invariant_loop h t rows entries first order size reason₀ i₀ reason i = SmallAt h t (mem rows entries) first order reason i
 
-abbrev decreases_loop : tie.decreases_loop
+abbrev decreases_loop : tie.decreases-loop-i
 decreases_loop h t rows entries first order size reason₀ i₀ reason i = t - i
 
 -- the function's entry, from a turn of the loop
-abbrev entry : tie.At-loop invariant_loop decreases_loop → tie.Start invariant_loop decreases_loop
+abbrev entry : tie.At-loop-i invariant_loop decreases_loop → tie.Start invariant_loop decreases_loop
 entry a = a.before.before.before.before
 
 -- a turn of the loop, from where its entry's free count is known
-abbrev turn : tie.After-free invariant_loop decreases_loop → tie.At-loop invariant_loop decreases_loop
+abbrev turn : tie.After-free invariant_loop decreases_loop → tie.At-loop-i invariant_loop decreases_loop
 turn f = f.before.before.before
 
-size_requires : tie.Need-size-requires invariant_loop decreases_loop
-size_requires c κs = let p = c.before.before.requires in omega (arith, p.1, p.0.high)
+size_requires : tie.Need-size-size-requires invariant_loop decreases_loop
+size_requires c κs = let p = c.requires in omega (arith, p.1, p.0.high)
 
-first_zeros_requires : tie.Need-first-zeros-requires invariant_loop decreases_loop
+first_zeros_requires : tie.Need-first_zeros-requires invariant_loop decreases_loop
 first_zeros_requires c κs =
     let f = c.before in
     let a = turn f in
     let s = entry a in
-    (s.pre.0, s.pre.3 (s.args.first + a.loop.i) (omega arith) (omega (arith, f.before.before.loop-test.true)) (omega (arith, c.if1.true, f.free.ensures, a.before.size.ensures, pow_pos s.args.order)))
+    (s.requires.0, s.requires.3 (s.args.first + a.loop-i.i) (omega arith) (omega (arith, f.loop-i-test.true)) (omega (arith, c.if-size-free.true, f.free.ensures, a.size-size.ensures, pow_pos s.args.order)))
 
-returns : tie.Need-returns invariant_loop decreases_loop
+returns : tie.Need-returns-then-first_zeros-eq0 invariant_loop decreases_loop
 returns c =
     let z = c.before.before in
     let t = z.before in
     let f = t.before in
     let a = turn f in
-    small_found _ _ _ _ _ _ _ a.loop.inv f.before.before.loop-test.true a.before.size.ensures f.free.ensures t.if1.true z.first-zeros.ensures c.if2.true
+    small_found _ _ _ _ _ _ _ a.loop-i.invariant f.loop-i-test.true a.size-size.ensures f.free.ensures t.if-size-free.true z.first_zeros.ensures c.if-first_zeros-eq0.true
 
-loop_again : tie.Need-loop-preserved invariant_loop decreases_loop
+loop_again : tie.Need-loop-i-preserved invariant_loop decreases_loop
 loop_again c =
     let f = c.before in
     let a = turn f in
-    let l = f.before.before.loop-test.true in
-    ⊎_elim
-    (λ w. rw w.4 (small_none _ _ _ _ _ _ _ a.loop.inv l a.before.size.ensures f.free.ensures w.0.taken w.1.ensures w.3.left))
-    (λ w. rw w.1 (small_few _ _ _ _ _ _ _ a.loop.inv l a.before.size.ensures f.free.ensures w.0.left))
-    c.if1.branch
+    let l = f.loop-i-test.true in
+    elim c.if-size-free.branch [
+      | then-size-free+else-first_zeros-eq0 w ↦
+          rw w.reason-is
+          (small_none _ _ _ _ _ _ _ a.loop-i.invariant l a.size-size.ensures f.free.ensures w.if-size-free.true w.first_zeros.ensures w.if-first_zeros-eq0.false)
+      | else-size-free w ↦ rw w.reason-is (small_few _ _ _ _ _ _ _ a.loop-i.invariant l a.size-size.ensures f.free.ensures w.if-size-free.false)
+    ]
 
 pub get_small_spec : {M : Type 1} → statement M
 get_small_spec =
@@ -69,4 +72,4 @@ get_small_spec =
     (λ c. search rules)
     (λ c. search rules)
     loop_again
-    (λ c. small_end _ _ _ _ _ _ _ c.before.loop.invariant c.loop-test.false))
+    (λ c. small_end _ _ _ _ _ _ _ c.loop-i.invariant c.loop-i-test.false))

@@ -10,51 +10,44 @@ use Rattle.why.proofs.put.Statement.{statement}
 use Rattle.why.proofs.put.Tie as tie
 
 size_requires : tie.Need-size-requires
-size_requires c κs = let s = c.before.before.before in let b = s.requires.1.2 in omega (arith, order_low s.args.order b.sized b.top, s.requires.0.high)
+size_requires c κs = let b = c.requires.1.2 in omega (arith, order_low c.args.order b.sized b.top, c.requires.0.high)
 
-returns : tie.Need-returns
-returns c n l = put_free _ n _ _ _ l c.before.size.ensures c.before.before.first_frame.ensures c.if1.true
+returns : tie.Need-returns-then-found-frame
+returns c n l = put_free _ n _ _ _ l c.size.ensures c.first_frame-found.ensures c.if-found-frame.true
 
 -- ---- from the huge order up
 
 -- the function's entry, from where the group's size is known
-abbrev entry : tie.After-size2 → tie.Start
+abbrev entry : tie.After-size-g → tie.Start
 entry g = g.before.before.before.before.before.before.before.before
 
-size_requires_2 : tie.Need-size-requires-2
-size_requires_2 c κs = let s = c.before.before.before.before.before.before.before in let b = s.requires.1.2 in omega (arith, order_low s.args.order b.sized b.top)
+size_requires_2 : tie.Need-size-g-requires
+size_requires_2 c κs = let b = c.requires.1.2 in omega (arith, order_low c.args.order b.sized b.top)
 
 -- the entries of the group are lent
-lent : (g : tie.After-size2) → g.before.frame-huge.result + g.size2.result ≤ length (entry g).args.entries.now
-lent g = let p = (entry g).requires in group_lent p.0 g.before.before.if2.true p.1.2 g.before.frame-huge.ensures g.size2.ensures
+lent : (g : tie.After-size-g) → g.frame_huge-at.result + g.size-g.result ≤ length (entry g).args.entries.now
+lent g = let p = (entry g).requires in group_lent p.0 g.if-h-order.true p.1.2 g.frame_huge-at.ensures g.size-g.ensures
 
-huge_frame_requires : tie.Need-huge-frame-requires
+huge_frame_requires : tie.Need-huge_frame-requires
 huge_frame_requires c κs =
     let g = c.before.before in
     let s = entry g in
-    let b = s.pre.1.2 in
-    (s.pre.0, omega (arith, part_low s.args.h s.args.frame s.args.order g.before.before.if2.true b.aligned g.before.frame-huge.ensures g.size2.ensures c.if3.true, b.ends, b.sized.most))
+    let b = s.requires.1.2 in
+    (s.requires.0, omega (arith, part_low s.args.h s.args.frame s.args.order g.if-h-order.true b.aligned g.frame_huge-at.ensures g.size-g.ensures c.if-x-at.true, b.ends, b.sized.most))
 
-returns_2 : tie.Need-returns-2
+returns_2 : tie.Need-returns-then-x-at
 returns_2 c n l =
-    let k = c.before.before in
-    let g = k.before in
-    let e = g.before.before.before in
-    put_single _ n _ _ _ l e.before.size.ensures e.before.before.first_frame.ensures e.if1.false g.before.before.if2.true
-    g.before.frame-huge.ensures g.size2.ensures k.first-unmarked.ensures c.before.if3.true c.huge-frame.ensures
+    put_single _ n _ _ _ l c.size.ensures c.first_frame-found.ensures c.if-found-frame.false c.if-h-order.true
+    c.frame_huge-at.ensures c.size-g.ensures c.first_unmarked-x.ensures c.if-x-at.true c.huge_frame.ensures
 
-returns_3 : tie.Need-returns-3
+returns_3 : tie.Need-returns-else-x-at
 returns_3 c n l =
-    let k = c.before in
-    let g = k.before in
-    let e = g.before.before.before in
-    put_whole _ n _ _ _ l e.before.size.ensures e.before.before.first_frame.ensures e.if1.false g.before.before.if2.true
-    g.before.frame-huge.ensures g.size2.ensures k.first-unmarked.ensures c.if3.false
+    put_whole _ n _ _ _ l c.size.ensures c.first_frame-found.ensures c.if-found-frame.false c.if-h-order.true
+    c.frame_huge-at.ensures c.size-g.ensures c.first_unmarked-x.ensures c.if-x-at.false
 
-returns_4 : tie.Need-returns-4
+returns_4 : tie.Need-returns-else-h-order
 returns_4 c n l =
-    let e = c.before in
-    put_small _ n _ _ _ l e.before.size.ensures e.before.before.first_frame.ensures e.if1.false c.if2.false
+    put_small _ n _ _ _ l c.size.ensures c.first_frame-found.ensures c.if-found-frame.false c.if-h-order.false
 
 pub put_spec : {M : Type 1} → statement M
 put_spec =
