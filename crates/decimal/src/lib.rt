@@ -7,7 +7,7 @@ ghost use Rattle.base.specs.Code.{out};
 ghost use Rattle.decimal.specs.Decimal as spec;
 
 // A number that was read: whether there is one, what it is, and where its text ends.
-#[derive(Drop)]
+#[derive(Clone, Copy)]
 pub struct Number {
     pub good: bool,
     pub value: usize,

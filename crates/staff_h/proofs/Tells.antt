@@ -21,14 +21,14 @@ module _ (w : Why) {refusal code : ℕ} (code_is : code ≡ refusal) where
   tells_refusal consistent n = refused w (λ r. why r 0 0) (stops _ code_is n) n
 
   module _ (z : code ≡ 0) {consistent r : Bool} (r_is : r ≡ consistent) where
-    pub tells_damage : not r ≡ true → why 8 0 0 ≡ told refusal consistent w
-    tells_damage q = refused w (λ r. why r 0 0) (passes code_is z (its_code 8 r_is (not-true r q))) (λ e. omega arith)
+    pub tells_damage : r ≡ false → why 8 0 0 ≡ told refusal consistent w
+    tells_damage q = refused w (λ r. why r 0 0) (passes code_is z (its_code 8 r_is q)) (λ e. omega arith)
 
-    pub tells_reason : not r ≡ false → {x : Why} → x ≡ w → x ≡ told refusal consistent w
-    tells_reason q e = answered w _ (sym (passes code_is z (no_code 8 r_is (not-false r q)))) e
+    pub tells_reason : r ≡ true → {x : Why} → x ≡ w → x ≡ told refusal consistent w
+    tells_reason q e = answered w _ (sym (passes code_is z (no_code 8 r_is q))) e
 
 -- the tree of a frame below N is consistent if it is found sound
-pub sound_consistent : {h n t : ℕ} (m : Mem) {f : ℕ} → Huge h → Fits m → Framed h n t (lengths_of m) f → {r : Bool} → r ≡ sound h n t m (tree_of h t f) → not r ≡ false
+pub sound_consistent : {h n t : ℕ} (m : Mem) {f : ℕ} → Huge h → Fits m → Framed h n t (lengths_of m) f → {r : Bool} → r ≡ sound h n t m (tree_of h t f) → r ≡ true
     → ConsistentIn h n t m (tree_of h t f)
 sound_consistent {h} {n} {t} m {f} H fits b {r} r_is q =
-    (tree_is_sound h n t m (tree_of h t f) H fits b.sized (tree_covers h n t f (tree_pos t b.sized.tree) b.below)).0 (sym r_is ∙ not-false r q)
+    (tree_is_sound h n t m (tree_of h t f) H fits b.sized (tree_covers h n t f (tree_pos t b.sized.tree) b.below)).0 (sym r_is ∙ q)

@@ -5,16 +5,15 @@ use Rattle.lines.proofs.Cases.{second_bad, two_fields, three_fields}
 use Rattle.lines.proofs.two.Statement.{statement}
 use Rattle.lines.proofs.two.Tie as tie
 
-returns : tie.Need-returns
-returns c = second_bad _ _ _ (not-true _ c.if1.true)
+returns : tie.Need-returns-then-not-y
+returns c = second_bad _ _ _ (not-true _ c.if-not-y.true)
 
-returns_2 : tie.Need-returns-2
-returns_2 c = let ends = c.before.before in two_fields _ _ _ (not-false _ ends.before.before.if1.false) ends.if2.true c.line-two.ensures
+returns_2 : tie.Need-returns-then-y-line
+returns_2 c = two_fields _ _ _ (not-false _ c.if-not-y.false) c.if-y-line.true c.line_two.ensures
 
-returns_3 : tie.Need-returns-3
+returns_3 : tie.Need-returns
 returns_3 c =
-    let more = c.before.before in
-    three_fields _ _ _ (not-false _ more.before.before.if1.false) more.if2.false _ c.before.field.ensures c.three.ensures
+    three_fields _ _ _ (not-false _ c.if-not-y.false) c.if-y-line.false _ c.field.ensures c.three.ensures
 
 pub two_spec : {M : Type 1} → statement M
 two_spec =

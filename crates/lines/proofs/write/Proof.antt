@@ -17,10 +17,10 @@ use Rattle.lines.proofs.write.Statement.{statement}
 use Rattle.lines.proofs.write.Tie as tie
 
 -- where the function begins, from where the code is written; and where that was, from where the fields are
-abbrev start : tie.After-write → tie.Start
+abbrev start : tie.After-write-code → tie.Start
 start c = c.before.before.before.before
 
-abbrev first : tie.After-write-fields → tie.After-write
+abbrev first : tie.After-write_fields-end → tie.After-write-code
 first c = c.before.before.before.before
 
 -- the numbers of an answer
@@ -28,46 +28,46 @@ abbrev fields_of : Answer → List ℕ
 fields_of r = fields_text r.fields r.a r.b r.c
 
 -- what is written after the code, and after the fields, and how much room is left
-code : (c : tie.After-write) → let a = (start c).args in out c.write.result c.write.new.0 ≡ text_to a.text.now a.at (decimal a.answer.code)
-code c = let a = (start c).args in c.write.ensures ∙ text_number a.text.now a.at a.answer.code
+code : (c : tie.After-write-code) → let a = (start c).args in out c.write-code.result c.write-code.new.text ≡ text_to a.text.now a.at (decimal a.answer.code)
+code c = let a = (start c).args in c.write-code.ensures ∙ text_number a.text.now a.at a.answer.code
 
-code_room : (c : tie.After-write) → c.write.result + 64 ≤ length c.write.new.0
+code_room : (c : tie.After-write-code) → c.write-code.result + 64 ≤ length c.write-code.new.text
 code_room c =
     let a = (start c).args in
-    omega (arith, text_ends a.text.now (decimal a.answer.code) a.at (code c), decimal_short a.answer.code, c.write.auto.0)
+    omega (arith, text_ends a.text.now (decimal a.answer.code) a.at (code c), decimal_short a.answer.code, c.write-code.auto.text)
 
-numbers : (c : tie.After-write-fields) → let a = (start (first c)).args in
-    out c.write-fields.result c.write-fields.new.0 ≡ text_to a.text.now a.at (decimal a.answer.code ++ fields_of a.answer)
+numbers : (c : tie.After-write_fields-end) → let a = (start (first c)).args in
+    out c.write_fields-end.result c.write_fields-end.new.text ≡ text_to a.text.now a.at (decimal a.answer.code ++ fields_of a.answer)
 numbers c =
     let a = (start (first c)).args in
     let digits = decimal a.answer.code in
-    text_behind a.text.now digits (fields_of a.answer) a.at (omega (arith, decimal_short a.answer.code)) (code (first c)) c.write-fields.ensures
+    text_behind a.text.now digits (fields_of a.answer) a.at (omega (arith, decimal_short a.answer.code)) (code (first c)) c.write_fields-end.ensures
 
-end_room : (c : tie.After-write-fields) → c.write-fields.result < length c.write-fields.new.0
+end_room : (c : tie.After-write_fields-end) → c.write_fields-end.result < length c.write_fields-end.new.text
 end_room c =
     let r = (start (first c)).args.answer in
-    let was = (first c).write in
+    let was = (first c).write-code in
     omega (
       arith,
-      text_ends was.last.0 (fields_of r) was.result c.write-fields.ensures,
+      text_ends was.new.text (fields_of r) was.result c.write_fields-end.ensures,
       fields_short r.fields r.a r.b r.c,
       code_room (first c),
-      c.write-fields.auto.0,
+      c.write_fields-end.auto.text,
     )
 
-write_fields_requires : tie.Need-write-fields-requires
+write_fields_requires : tie.Need-write_fields-end-requires
 write_fields_requires c κs = omega (arith, code_room c.before.before.before)
 
-slice_write_text : tie.Need-slice-write-text
+slice_write_text : tie.Need-bounds-text-end
 slice_write_text c = end_room c.before.before
 
-add_result : tie.Need-overflow-add-result
+add_result : tie.Need-overflow_add-result
 add_result c = omega (arith, end_room c.before.before)
 
-same_length : tie.Need-same-length
+same_length : tie.Need-shape_of-text
 same_length c =
     let end = c.before.before in
-    length-set end.write-fields.new.0 _ _ ∙ end.write-fields.auto.0 ∙ (first end).write.auto.0
+    length-set end.write_fields-end.new.text _ _ ∙ end.write_fields-end.auto.text ∙ (first end).write-code.auto.text
 
 returns : tie.Need-returns
 unfolding answer_to answer_text
@@ -76,7 +76,7 @@ returns c =
     let a = (start (first end)).args in
     let r = a.answer in
     text_behind a.text.now (decimal r.code ++ fields_of r) (LF ∷ []) a.at (omega (arith, numbers_short r.code r.fields r.a r.b r.c))
-    (numbers end) (text_byte end.write-fields.new.0 end.write-fields.result LF (end_room end))
+    (numbers end) (text_byte end.write_fields-end.new.text end.write_fields-end.result LF (end_room end))
 
 pub write_spec : {M : Type 1} → statement M
 write_spec =

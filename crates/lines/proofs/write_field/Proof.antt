@@ -14,15 +14,15 @@ use Rattle.lines.proofs.write_field.Tie as tie
 write_requires : tie.Need-write-requires
 write_requires c κs = simp length-set (omega arith)
 
-same_length : tie.Need-same-length
-same_length c = let a = c.before.before.before.before.before.args in c.before.before.write.auto.0 ∙ length-set a.text.now a.at _
+same_length : tie.Need-shape_of-text
+same_length c = let a = c.args in c.write.auto.text ∙ length-set a.text.now a.at _
 
 returns : tie.Need-returns
 returns c =
-    let a = c.before.before.before.before.before.args in
+    let a = c.args in
     let room : a.at < length a.text.now = omega arith in
     text_behind a.text.now (space ∷ []) (decimal a.n) a.at (omega arith) (text_byte a.text.now a.at space room)
-    (c.before.before.write.ensures ∙ text_number (set a.text.now a.at space) (a.at + 1) a.n)
+    (c.write.ensures ∙ text_number (set a.text.now a.at space) (a.at + 1) a.n)
 
 pub write_field_spec : {M : Type 1} → statement M
 write_field_spec =

@@ -27,7 +27,7 @@ tree_first_requires : tie.Need-tree_first-a-requires
 tree_first_requires c κs = (c.requires, (within c).sized.tree)
 
 -- the tree's entries are lent
-lent : (a : tie.After-tree_first-a) → let s = a.args in a.tree_first-a.result-1 + s.t ≤ length s.entries.now
+lent : (a : tie.After-tree_first-a) → let s = a.args in a.tree_first-a.result + s.t ≤ length s.entries.now
 lent a = let k = a.before in rw a.tree_first-a.ensures (frame_tree k.requires (within k))
 
 add_b : tie.Need-overflow_add-b
@@ -43,7 +43,7 @@ returns_2 : tie.Need-returns
 unfolding spec.tree_run
 returns_2 c =
     let t = c.args.t in
-    answered _ _ (sym c.frame-code.ensures ∙ c.if-code-ne0.false) (rw (add-sub_cancel_left c.tree_first-a.result-1 t, c.tree_first-a.ensures))
+    answered _ _ (sym c.frame-code.ensures ∙ c.if-code-ne0.false) (rw (add-sub_cancel_left c.tree_first-a.result t, c.tree_first-a.ensures))
 
 pub tree_run_spec : {M : Type 1} → statement M
 tree_run_spec =
