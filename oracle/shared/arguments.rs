@@ -8,7 +8,7 @@ pub struct Arguments<const AMOUNTS: usize> {
     pub amounts: [u64; AMOUNTS],
     /// The Rust, one library for each tree size.
     pub libraries: Vec<String>,
-    /// Our side's program, and the emulator before it where there is one.
+    /// Our side's program.
     pub command: Vec<String>,
 }
 

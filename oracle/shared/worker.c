@@ -1,6 +1,6 @@
-/* Ours, for the comparisons of calls: a program for x86-64 over libravelbeam.a, the archive that users link. It reads
- * calls from its standard input and writes what they answered and changed. The driver, with worker.rs, runs it natively
- * or under the kit's emulator, and has the other half of this protocol.
+/* Ours, for the comparisons of calls: a program over libravelbeam.a, the archive that users link. It reads calls from
+ * its standard input and writes what they answered and changed. The driver, with worker.rs, runs it, and has the other
+ * half of this protocol.
  *
  * A batch is a number of words of 64 bits, then those words: items, each a state or a call. All of the batch is read
  * before anything is answered, so that no side waits for the other; the answers go back in the same form. The room
@@ -9,7 +9,7 @@
 #include "../bitfield/calls.h"
 #include "../lower/calls.h"
 
-/* The kit's compiler comes without the C library's headers. */
+/* Of the C library it has these three, and no header. */
 long read(int file, void *to, size length);
 long write(int file, const void *from, size length);
 void *memcpy(void *to, const void *from, size length);

@@ -16,10 +16,10 @@ fn main() {
     }
 
     // In the repository: the folder of the target's archive, and the command that makes it.
-    let (folder, command) = match (&cargo("CARGO_CFG_TARGET_OS")[..], &machine[..]) {
-        ("none", _) => (format!("target/kernel/{machine}"), "tools/kernel"),
-        (_, "x86_64") => ("target/staticlib".into(), "tools/archive"),
-        _ => (format!("target/native/{machine}"), "tools/native on that machine"),
+    let (folder, command): (String, String) = match (&cargo("CARGO_CFG_TARGET_OS")[..], &machine[..]) {
+        ("none", _) => (format!("target/kernel/{machine}"), "tools/kernel".into()),
+        (_, "x86_64") => ("target/staticlib".into(), "tools/archive".into()),
+        _ => (format!("target/native/{machine}"), format!("tools/native {machine}")),
     };
     // The crate is in rust/ravelbeam of the repository. A relative folder is one from where cargo runs, as
     // the shell says; this program itself runs in the crate's folder.

@@ -38,7 +38,7 @@
 //! |---|---|---|
 //! | a kernel's, `target_os = "none"` | `target/kernel/MACHINE` | `tools/kernel` |
 //! | x86-64 | `target/staticlib` | `tools/archive` |
-//! | another machine | `target/native/MACHINE` | `tools/native`, on that machine |
+//! | another machine | `target/native/MACHINE` | `tools/native MACHINE` |
 //!
 //! `RAVELBEAM_LIB_DIR` names another folder; if it is relative, from the folder that cargo runs in. `cargo
 //! check` and `cargo doc` need no archive.

@@ -1,6 +1,5 @@
 -- `huge::get` meets its contract. The loop's invariant: the entries are as they were, `at` is where group j begins, and no group before it is free. Assumes nothing.
 use mathlib.Core.Path.{◌≡◌, refl, sym, ap, ◌∙◌}
-use mathlib.Core.Logic.{⊎_elim}
 use Prim.Native.Nat.{ℕ, ◌+◌, ◌-◌, ◌/◌, ◌^◌, ◌≤◌, ◌<◌}
 use native.Mathlib.Nat.{div-mul-le_self, mod-le}
 use native.Mathlib.Omega.{arith}
@@ -16,6 +15,7 @@ use Rattle.rules.proofs.Numbers.{huge_by_rows}
 use Rattle.rules.proofs.GroupSteps.{order_low, Tree, tree_low, tree_groups, groups_are, group_starts, group_ends, group_next, group_wraps}
 use Rattle.rules.proofs.GroupCases.{get_found, get_none}
 use Rattle.huge.proofs.get.Statement.{statement}
+use Rattle.huge.proofs.get.Lts.{then-at-end, else-at-end}
 use Rattle.huge.proofs.get.Tie as tie
 
 abbrev invariant_loop : tie.invariant-loop-j
@@ -102,40 +102,40 @@ lent : (a : tie.At-loop-j invariant_loop decreases_loop) → a.loop-j.at + wide 
 lent a = rw a.loop-j.invariant.0 (omega (arith, ends a, (tree a.before).ends))
 
 -- whether group j is free is what was asked
-answer : (c : tie.After-are invariant_loop decreases_loop) → let a = c.before.before.before in let s = start a.before in
+answer : (c : tie.After-are invariant_loop decreases_loop) → let a = c.before.before in let s = start a.before in
     entries_are (2 ^ s.args.h) s.args.entries.now (group_at s.args.t (wide a.before) (huge a.before) a.loop-j.j) (wide a.before) ≡ c.are.result
 answer c = sym (rw (c.whole-free.ensures, c.loop-j.invariant.0, c.loop-j.invariant.1) at c.are.ensures)
 
 are_requires : tie.Need-are-requires invariant_loop decreases_loop
-are_requires c κs = lent c.before.before
+are_requires c κs = lent c.before
 
 take_requires : tie.Need-take-requires invariant_loop decreases_loop
-take_requires c κs = let a = c.before.before.before.before.before in ((start a.before).requires.0, lent a, omega (arith, ends a, (tree a.before).low))
+take_requires c κs = let a = c.before.before.before.before in ((start a.before).requires.0, lent a, omega (arith, ends a, (tree a.before).low))
 
 same_length : tie.Need-shape_of-entries-then-are invariant_loop decreases_loop
-same_length c = c.take.auto.1.1.0 ∙ ap length c.loop-j.invariant.0
+same_length c = c.take.auto.entries ∙ ap length c.loop-j.invariant.0
 
 returns : tie.Need-returns-then-are invariant_loop decreases_loop
 returns c =
     let e = c.before.before.before.before.before in
-    let a = e.before.before.before in
+    let a = e.before.before in
     let in_loop = e.loop-j-test.true in
     get_found _ _ _ _ _ _ _ _ _ _ (wide_is a.before) (huge_is a.before) (groups_are (tree a.before))
     (first_found _ _ _ a.loop-j.invariant.2 in_loop (answer e ∙ c.if-are.true))
     in_loop (rw (a.loop-j.invariant.0, a.loop-j.invariant.1) at c.take.ensures)
 
 add_at : tie.Need-overflow_add-at invariant_loop decreases_loop
-add_at c = let a = c.before.before.before.before in omega (arith, ends a, (tree a.before).low)
+add_at c = let a = c.before.before.before in omega (arith, ends a, (tree a.before).low)
 
 loop_again : tie.Need-loop-j-preserved invariant_loop decreases_loop
 loop_again c =
     let e = c.before.before in
-    let a = e.before.before.before in (
+    let a = e.before.before in (
       a.loop-j.invariant.0,
-      ⊎_elim
-          (λ w. rw w.1 (group_wraps (tree a.before) _ _ a.loop-j.invariant.1 w.0.taken))
-          (λ w. rw w.1 (group_next (tree a.before) _ _ a.loop-j.invariant.1 w.0.left))
-          c.if-at-end.branch,
+      elim c.if-at-end.branch [
+        | then-at-end w ↦ rw w.at-is (group_wraps (tree a.before) _ _ a.loop-j.invariant.1 w.if-at-end.true)
+        | else-at-end w ↦ rw w.at-is (group_next (tree a.before) _ _ a.loop-j.invariant.1 w.if-at-end.false)
+      ],
       first_more _ _ _ a.loop-j.invariant.2 e.loop-j-test.true (answer e ∙ c.if-are.false),
     )
 

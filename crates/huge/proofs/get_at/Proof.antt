@@ -21,10 +21,10 @@ size_requires : tie.Need-size-g-requires
 size_requires c κs = let b = c.requires.2.3 in omega (arith, order_low _ b.sized b.top)
 
 are_requires : tie.Need-are-requires
-are_requires c κs = lent c.before.before
+are_requires c κs = lent c.before
 
 fill_requires : tie.Need-fill-requires
-fill_requires c κs = lent c.before.before.before.before.before
+fill_requires c κs = lent c.before.before.before.before
 
 returns : tie.Need-returns-then-are
 returns c =

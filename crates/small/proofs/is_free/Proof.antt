@@ -10,42 +10,42 @@ use Rattle.small.proofs.is_free.Statement.{statement}
 use Rattle.small.proofs.is_free.Tie as tie
 
 -- the function's entry, from where the block's huge frame is known
-abbrev entry : tie.After-frame-huge → tie.Start
+abbrev entry : tie.After-frame_huge-x → tie.Start
 entry x = x.before.before.before
 
 -- that place, from where the count is known to be enough
-abbrev huge : tie.Else2 → tie.After-frame-huge
+abbrev huge : tie.Else-entry-size → tie.After-frame_huge-x
 huge k = k.before.before.before.before
 
 -- the block's entry is lent
-lent : (x : tie.After-frame-huge) → x.frame-huge.result < length (entry x).args.entries.now
-lent x = let p = (entry x).requires in entry_lent p.0 p.1 p.2.2 x.frame-huge.ensures
+lent : (x : tie.After-frame_huge-x) → x.frame_huge-x.result < length (entry x).args.entries.now
+lent x = let p = (entry x).requires in entry_lent p.0 p.1 p.2.2 x.frame_huge-x.ensures
 
-mul_entry : tie.Need-overflow-mul-entry
+mul_entry : tie.Need-offset_bounds-entries-x
 mul_entry c = omega (arith, lent c)
 
-shared_slice_read_entry : tie.Need-shared-slice-read-entry
+shared_slice_read_entry : tie.Need-bounds-entries-x
 shared_slice_read_entry c = lent c.before
 
-returns : tie.Need-returns
-returns c = free_marked _ _ _ _ _ c.before.before.frame-huge.ensures c.if1.true
+returns : tie.Need-returns-then-entry
+returns c = free_marked _ _ _ _ _ c.frame_huge-x.ensures c.if-entry.true
 
-returns_2 : tie.Need-returns-2
-returns_2 c = let k = c.before.before in free_few _ _ _ _ _ k.before.before.frame-huge.ensures k.if1.false c.before.size.ensures c.if2.true
+returns_2 : tie.Need-returns-then-entry-size
+returns_2 c = free_few _ _ _ _ _ c.frame_huge-x.ensures c.if-entry.false c.size.ensures c.if-entry-size.true
 
-returns_3 : tie.Need-returns-3
+returns_3 : tie.Need-returns-then-entry-whole
 returns_3 c =
     let k = c.before.before in
-    free_whole _ _ _ _ _ (huge k).frame-huge.ensures k.before.before.if1.false k.before.size.ensures k.if2.false c.before.whole.ensures c.if3.true
+    free_whole _ _ _ _ _ (huge k).frame_huge-x.ensures k.if-entry.false k.size.ensures k.if-entry-size.false c.whole.ensures c.if-entry-whole.true
 
-block_is_requires : tie.Need-block-is-requires
+block_is_requires : tie.Need-block_is-requires
 block_is_requires c κs = let p = (entry (huge c.before.before)).requires in block_asked p.0 p.1 p.2.2 refl
 
-returns_4 : tie.Need-returns-4
+returns_4 : tie.Need-returns
 returns_4 c =
     let w = c.before.before in
     let k = w.before in
-    free_block _ _ _ _ _ (huge k).frame-huge.ensures k.before.before.if1.false k.before.size.ensures k.if2.false w.whole.ensures c.before.if3.false c.block-is.ensures
+    free_block _ _ _ _ _ (huge k).frame_huge-x.ensures k.if-entry.false k.size.ensures k.if-entry-size.false w.whole.ensures c.if-entry-whole.false c.block_is.ensures
 
 pub is_free_spec : {M : Type 1} → statement M
 is_free_spec =

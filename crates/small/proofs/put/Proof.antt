@@ -10,26 +10,22 @@ use Rattle.small.proofs.put.Statement.{statement}
 use Rattle.small.proofs.put.Tie as tie
 
 -- the block's entry is lent
-lent : (x : tie.After-frame-huge) → x.frame-huge.result < length x.before.before.before.args.entries.now
-lent x = let p = x.before.before.before.requires in entry_lent p.0 p.1 p.2.2 x.frame-huge.ensures
+lent : (x : tie.After-frame_huge-x) → x.frame_huge-x.result < length x.args.entries.now
+lent x = let p = x.requires in entry_lent p.0 p.1 p.2.2 x.frame_huge-x.ensures
 
-mul_if1 : tie.Need-overflow-mul-if1
+mul_if1 : tie.Need-offset_bounds-entries-x
 mul_if1 c = omega (arith, lent c)
 
-slice_read_if1 : tie.Need-slice-read-if1
+slice_read_if1 : tie.Need-bounds-entries-x
 slice_read_if1 c = lent c.before
 
-returns : tie.Need-returns
+returns : tie.Need-returns-then-entries-x
 returns c =
-    let d = c.before.before.before.before in
-    let i = d.before.before.before in
-    d.put-marked.ensures ∙ put_to_marked _ _ _ _ _ i.before.before.frame-huge.ensures i.if1.true
+    c.put_marked.ensures ∙ put_to_marked _ _ _ _ _ c.frame_huge-x.ensures c.if-entries-x.true
 
-returns_2 : tie.Need-returns-2
+returns_2 : tie.Need-returns
 returns_2 c =
-    let d = c.before.before.before.before in
-    let i = d.before.before.before in
-    d.put_counted_lem.ensures ∙ put_to_counted _ _ _ _ _ i.before.before.frame-huge.ensures i.if1.false
+    c.put_counted.ensures ∙ put_to_counted _ _ _ _ _ c.frame_huge-x.ensures c.if-entries-x.false
 
 pub put_spec : {M : Type 1} → statement M
 put_spec =

@@ -15,28 +15,28 @@ abbrev entry : tie.After-size → tie.Start
 entry z = z.before.before.before.before.before
 
 -- that place, from where the entry is known to have room
-abbrev sizes : tie.Else1 → tie.After-size
+abbrev sizes : tie.Else-whole-size → tie.After-size
 sizes k = k.before.before
 
 -- and that one, from where the block was tried
-abbrev room : tie.After-slice-known4 → tie.Else1
+abbrev room : tie.After-slice_known-4-1 → tie.Else-whole-size
 room t = t.before.before.before.before
 
 -- the block's entry is lent
-lent : (z : tie.After-size) → z.before.before.frame-huge.result < length (entry z).args.entries.now
-lent z = let p = (entry z).requires in entry_lent p.0 p.1 p.2.2 z.before.before.frame-huge.ensures
+lent : (z : tie.After-size) → z.frame_huge-x.result < length (entry z).args.entries.now
+lent z = let p = (entry z).requires in entry_lent p.0 p.1 p.2.2 z.frame_huge-x.ensures
 
-sub_if1 : tie.Need-overflow-sub-if1
-sub_if1 c = omega (arith, c.size.ensures, c.before.whole.ensures, pow-lt (entry c).requires.1)
+sub_if1 : tie.Need-overflow_sub-whole
+sub_if1 c = omega (arith, c.size.ensures, c.whole.ensures, pow-lt (entry c).requires.1)
 
-mul_if1 : tie.Need-overflow-mul-if1
+mul_if1 : tie.Need-offset_bounds-entries-x
 mul_if1 c = omega (arith, lent c)
 
-slice_read_if1 : tie.Need-slice-read-if1
+slice_read_if1 : tie.Need-bounds-entries-x
 slice_read_if1 c = lent c.before
 
-returns : tie.Need-returns
-returns c = let z = c.before.before in put_over _ _ _ _ _ z.before.before.frame-huge.ensures z.size.ensures z.before.whole.ensures c.if1.true
+returns : tie.Need-returns-then-whole-size
+returns c = put_over _ _ _ _ _ c.frame_huge-x.ensures c.size.ensures c.whole.ensures c.if-whole-size.true
 
 toggle_requires : tie.Need-toggle-requires
 toggle_requires c κs = let p = (entry (sizes c.before)).requires in turn_asked p.0 p.1 p.2.2
@@ -45,22 +45,22 @@ raise_requires : tie.Need-raise-requires
 raise_requires c κs =
     let k = room c.before.before in
     let z = sizes k in
-    let p = (entry z).pre in
-    (search rules, lent z, omega (arith, k.if1.left, z.size.ensures, z.before.whole.ensures, pow-lt p.1, frames_fit p.0))
+    let p = (entry z).requires in
+    (search rules, lent z, omega (arith, k.if-whole-size.false, z.size.ensures, z.whole.ensures, pow-lt p.1, frames_fit p.0))
 
-returns_2 : tie.Need-returns-2
+returns_2 : tie.Need-returns-then-toggle-eq0
 returns_2 c =
     let i = c.before.before.before.before in
     let k = room i.before in
     let z = sizes k in
-    put_done _ _ _ _ _ z.before.before.frame-huge.ensures z.size.ensures z.before.whole.ensures k.if1.left i.before.before.before.toggle.ensures i.if2.true
-    c.before.before.raise.ensures
+    put_done _ _ _ _ _ z.frame_huge-x.ensures z.size.ensures z.whole.ensures k.if-whole-size.false i.toggle.ensures i.if-toggle-eq0.true
+    c.raise.ensures
 
-returns_3 : tie.Need-returns-3
+returns_3 : tie.Need-returns
 returns_3 c =
     let k = room c.before in
     let z = sizes k in
-    put_free _ _ _ _ _ z.before.before.frame-huge.ensures z.size.ensures z.before.whole.ensures k.if1.left c.before.before.before.toggle.ensures c.if2.false
+    put_free _ _ _ _ _ z.frame_huge-x.ensures z.size.ensures z.whole.ensures k.if-whole-size.false c.toggle.ensures c.if-toggle-eq0.false
 
 pub put_counted_spec : {M : Type 1} → statement M
 put_counted_spec =

@@ -5,7 +5,7 @@ use Rattle.visits.proofs.counts.Statement.{statement}
 use Rattle.visits.proofs.counts.Tie as tie
 
 returns : tie.Need-returns
-returns c = let s = c.before in counts_is s.args.entry s.args.size (omega arith) s.requires c.wrapping-add-u16.ensures
+returns c = counts_is c.args.entry c.args.size (omega arith) c.requires c.wrapping_add_u16.ensures
 
 pub counts_spec : {M : Type 1} → statement M
 counts_spec = tie.close (tie.spec (λ c κs. search rules) returns)

@@ -6,19 +6,19 @@ use Rattle.rules.proofs.GetSteps.{child_is, entry_masked, entry_near}
 use Rattle.visits.proofs.entry_at.Statement.{statement}
 use Rattle.visits.proofs.entry_at.Tie as tie
 
-sub_child : tie.Need-overflow-sub-child
+sub_child : tie.Need-overflow_sub-child
 sub_child c = tree_pos c.args.t c.requires.0
 
-sub_result : tie.Need-overflow-sub-result
+sub_result : tie.Need-overflow_sub-result
 sub_result c = rw (child_is c.args.t c.args.x c.requires.0) (mod-le c.args.x c.args.t)
 
-add_result : tie.Need-overflow-add-result
+add_result : tie.Need-overflow_add-result
 add_result c = omega (arith, c.requires.1, c.requires.2, child_is c.args.t c.args.x c.requires.0, mod-le c.args.x c.args.t)
 
-sub_result_2 : tie.Need-overflow-sub-result-2
+sub_result_2 : tie.Need-overflow_sub-result-2
 sub_result_2 c = tree_pos c.args.t c.requires.0
 
-add_result_2 : tie.Need-overflow-add-result-2
+add_result_2 : tie.Need-overflow_add-result-2
 add_result_2 c = let a = c.args in rw (entry_masked a.t a.x c.requires.0 a.j) (omega (arith, entry_near a.t a.x c.requires.0 a.j, c.requires.1))
 
 returns : tie.Need-returns

@@ -9,60 +9,58 @@ use Rattle.visits.proofs.Skips.{eligible_at}
 use Rattle.visits.proofs.next.Statement.{statement}
 use Rattle.visits.proofs.next.Tie as tie
 
-abbrev invariant_loop : tie.invariant_loop
+abbrev invariant_loop : tie.invariant-loop-i
 invariant_loop entries t x order j size i₀ i = (i ≤ t) × FirstFrom (eligible_at t entries x order) t j i
 
-abbrev decreases_loop : tie.decreases_loop
+abbrev decreases_loop : tie.decreases-loop-i
 decreases_loop entries t x order j size i₀ i = t - i
 
 -- the function's entry, from a turn of the loop
-abbrev entry : tie.At-loop invariant_loop decreases_loop → tie.Start invariant_loop decreases_loop
+abbrev entry : tie.At-loop-i invariant_loop decreases_loop → tie.Start invariant_loop decreases_loop
 entry a = a.before.before.before
 
-entry_at_requires : tie.Need-entry-at-requires invariant_loop decreases_loop
-entry_at_requires c κs = let s = entry c.before in (s.pre.0, s.pre.1, omega (arith, c.before.loop.invariant.0, tree_high s.args.t s.pre.0))
+entry_at_requires : tie.Need-entry_at-requires invariant_loop decreases_loop
+entry_at_requires c κs = let s = entry c.before in (s.requires.0, s.requires.1, omega (arith, c.loop-i.invariant.0, tree_high s.args.t s.requires.0))
 
 -- the entry is lent
-lent : (c : tie.After-entry-at invariant_loop decreases_loop) → c.entry_at.result < length (entry c.before.before).args.entries.now
+lent : (c : tie.After-entry_at invariant_loop decreases_loop) → c.entry_at.result < length (entry c.before.before).args.entries.now
 lent c =
     let s = entry c.before.before in
-    omega (arith, c.entry_at.ensures, entry_in s.args.t s.args.x s.pre.0 c.before.before.loop.i, s.pre.2)
+    omega (arith, c.entry_at.ensures, entry_in s.args.t s.args.x s.requires.0 c.loop-i.i, s.requires.2)
 
-mul_counts : tie.Need-overflow-mul-counts invariant_loop decreases_loop
+mul_counts : tie.Need-offset_bounds-entries-entry_at invariant_loop decreases_loop
 mul_counts c = omega (arith, lent c)
 
-shared_slice_read_counts : tie.Need-shared-slice-read-counts invariant_loop decreases_loop
+shared_slice_read_counts : tie.Need-bounds-entries-entry_at invariant_loop decreases_loop
 shared_slice_read_counts c = lent c.before
 
 counts_requires : tie.Need-counts-requires invariant_loop decreases_loop
-counts_requires c κs = let a = c.before.before.before in omega (arith, a.before.size.ensures, pow_pos (entry a).args.order)
+counts_requires c κs = let a = c.before.before.before in omega (arith, a.size-size.ensures, pow_pos (entry a).args.order)
 
 -- what the test says of the entry
 tells : (c : tie.After-counts invariant_loop decreases_loop) → let a = c.before.before.before.before in let s = (entry a).args in
-    c.counts.result ≡ eligible_at s.t s.entries.now s.x s.order a.loop.i
+    c.counts.result ≡ eligible_at s.t s.entries.now s.x s.order a.loop-i.i
 tells c =
     let a = c.before.before.before.before in
     let s = (entry a).args in
-    c.counts.ensures ∙ ap₂ (λ (z x : ℕ). leb z (free_of (entry_of s.entries.now x))) a.before.size.ensures c.before.before.entry_at.ensures
+    c.counts.ensures ∙ ap₂ (λ (z x : ℕ). leb z (free_of (entry_of s.entries.now x))) a.size-size.ensures c.entry_at.ensures
 
-returns : tie.Need-returns invariant_loop decreases_loop
+returns : tie.Need-returns-then-counts invariant_loop decreases_loop
 returns c =
     let k = c.before in
-    let a = k.before.before.before.before in
-    from_found _ _ _ _ a.loop.invariant.1 k.before.before.before.loop-test.true (sym (tells k) ∙ c.if1.true)
+    from_found _ _ _ _ k.loop-i.invariant.1 k.loop-i-test.true (sym (tells k) ∙ c.if-counts.true)
 
-loop_again : tie.Need-loop-preserved invariant_loop decreases_loop
+loop_again : tie.Need-loop-i-preserved invariant_loop decreases_loop
 loop_again c =
     let k = c.before in
-    let a = k.before.before.before.before in
-    let l = k.before.before.before.loop-test.true in
-    (omega (arith, l), from_more _ _ _ _ a.loop.invariant.1 l (sym (tells k) ∙ c.if1.false))
+    let l = k.loop-i-test.true in
+    (omega (arith, l), from_more _ _ _ _ k.loop-i.invariant.1 l (sym (tells k) ∙ c.if-counts.false))
 
-returns_2 : tie.Need-returns-2 invariant_loop decreases_loop
+returns_2 : tie.Need-returns invariant_loop decreases_loop
 returns_2 c =
     let a = c.before in
-    let e : (entry a).args.t ≡ a.loop.i = omega (arith, a.loop.invariant.0, c.loop-test.false) in
-    e ∙ from_none _ _ _ _ a.loop.invariant.1 c.loop-test.false
+    let e : (entry a).args.t ≡ a.loop-i.i = omega (arith, a.loop-i.invariant.0, c.loop-i-test.false) in
+    e ∙ from_none _ _ _ _ a.loop-i.invariant.1 c.loop-i-test.false
 
 pub next_spec : {M : Type 1} → statement M
 next_spec =
