@@ -5,21 +5,21 @@ use Rattle.asks.specs.Turn as spec
 use Rattle.asks.proofs.ask.Statement.{statement}
 use Rattle.asks.proofs.ask.Tie as tie
 
-returns : tie.Need-returns
+returns : tie.Need-returns-in-IsFree
 unfolding spec.asked
-returns c = rw c.before.before.before.question.given.1 (c.of-free.ensures ∙ ap spec.of_free c.before.is_free.ensures)
+returns c = rw c.in-IsFree.is (c.of_free.ensures ∙ ap spec.of_free c.is_free.ensures)
 
-returns_2 : tie.Need-returns-2
+returns_2 : tie.Need-returns-in-StatsOfAll
 unfolding spec.asked
-returns_2 c = rw c.before.before.enum_told.given.1 (c.of-stats.ensures ∙ ap spec.of_stats c.before.stats.ensures)
+returns_2 c = rw c.in-StatsOfAll.is (c.of_stats.ensures ∙ ap spec.of_stats c.stats.ensures)
 
-returns_3 : tie.Need-returns-3
+returns_3 : tie.Need-returns-in-StatsAt
 unfolding spec.asked
-returns_3 c = rw c.before.before.before.question2.given.1 (c.of-stats2.ensures ∙ ap spec.of_stats c.before.stats-at.ensures)
+returns_3 c = rw c.in-StatsAt.is (c.of_stats-in-StatsAt.ensures ∙ ap spec.of_stats c.stats_at.ensures)
 
-returns_4 : tie.Need-returns-4
+returns_4 : tie.Need-returns-in-Audit
 unfolding spec.asked
-returns_4 c = rw c.before.before.before.enum-told2.given.1 (c.of_two.ensures ∙ ap spec.of_fault c.before.before.audit.ensures)
+returns_4 c = rw c.in-Audit.is (c.of_two.ensures ∙ ap spec.of_fault c.audit-fault.ensures)
 
 pub ask_spec : {M : Type 1} → statement M
 ask_spec =

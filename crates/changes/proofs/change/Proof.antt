@@ -5,29 +5,25 @@ use Rattle.asks.specs.Turn as spec
 use Rattle.changes.proofs.change.Statement.{statement}
 use Rattle.changes.proofs.change.Tie as tie
 
-returns : tie.Need-returns
+returns : tie.Need-returns-in-Get
 unfolding spec.changed
 returns c =
-    let made = c.before.before.before.before.before in
-    rw made.before.before.before.before.call.given.1 (prints spec.of_got c.of_two.ensures made.get.ensures)
+    rw c.in-Get.is (prints spec.of_got c.of_two.ensures c.get-got.ensures)
 
-returns_2 : tie.Need-returns-2
+returns_2 : tie.Need-returns-in-GetAt
 unfolding spec.changed
 returns_2 c =
-    let made = c.before.before.before.before.before in
-    rw made.before.before.before.before.call2.given.1 (prints spec.of_got c.of-two2.ensures made.get_at.ensures)
+    rw c.in-GetAt.is (prints spec.of_got c.of_two-in-GetAt.ensures c.get_at-got.ensures)
 
-returns_3 : tie.Need-returns-3
+returns_3 : tie.Need-returns-in-Put
 unfolding spec.changed
 returns_3 c =
-    let made = c.before.before.before.before.before in
-    rw made.before.before.before.before.call3.given.1 (prints spec.of_code c.of_code.ensures made.put.ensures)
+    rw c.in-Put.is (prints spec.of_code c.of_code.ensures c.put.ensures)
 
-returns_4 : tie.Need-returns-4
+returns_4 : tie.Need-returns-in-Recover
 unfolding spec.changed
 returns_4 c =
-    let made = c.before.before.before.before.before in
-    rw made.before.before.before.enum_told.given.1 (prints spec.of_recovered c.of-two3.ensures made.recover.ensures)
+    rw c.in-Recover.is (prints spec.of_recovered c.of_two-in-Recover.ensures c.recover-done.ensures)
 
 pub change_spec : {M : Type 1} → statement M
 change_spec =

@@ -4,17 +4,15 @@ use Rattle.asks.specs.Turn as spec
 use Rattle.changes.proofs.fill.Statement.{statement}
 use Rattle.changes.proofs.fill.Tie as tie
 
-returns : tie.Need-returns
+returns : tie.Need-returns-in-FreeAll
 unfolding spec.filled
 returns c =
-    let made = c.before.before.before.before in
-    rw made.before.before.before.enum_told.given.1 made.free_all.ensures
+    rw c.in-FreeAll.is c.free_all.ensures
 
-returns_2 : tie.Need-returns-2
+returns_2 : tie.Need-returns-in-AllocAll
 unfolding spec.filled
 returns_2 c =
-    let made = c.before.before.before.before in
-    rw made.before.before.before.enum-told2.given.1 made.reserve-all.ensures
+    rw c.in-AllocAll.is c.reserve_all.ensures
 
 pub fill_spec : {M : Type 1} → statement M
 fill_spec =

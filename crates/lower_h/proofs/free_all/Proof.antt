@@ -9,19 +9,17 @@ use Rattle.rules.specs.Starts as spec
 use Rattle.lower_h.proofs.free_all.Statement.{statement}
 use Rattle.lower_h.proofs.free_all.Tie as tie
 
-returns : tie.Need-returns
+returns : tie.Need-returns-then-code-ne0
 unfolding spec.free_all
-returns c = refuses _ _ (λ r. r) c.before.sizes.ensures c.if1.true
+returns c = refuses _ _ (λ r. r) c.sizes-code.ensures c.if-code-ne0.true
 
-free_all_requires : tie.Need-free-all-requires
-free_all_requires c κs = let k = c.before.before in (k.before.before.before.before.requires, sized _ _ _ _ (sym k.before.sizes.ensures ∙ k.if1.false))
+free_all_requires : tie.Need-free_all-requires
+free_all_requires c κs = (c.requires, sized _ _ _ _ (sym c.sizes-code.ensures ∙ c.if-code-ne0.false))
 
-returns_2 : tie.Need-returns-2
+returns_2 : tie.Need-returns
 unfolding spec.free_all
 returns_2 c =
-    let f = c.before.before.before.before in
-    let k = f.before.before.before in
-    does_it _ _ _ (sym k.before.sizes.ensures ∙ k.if1.false) (ap (λ (m : Mem). out 0 m) f.free_all.ensures)
+    does_it _ _ _ (sym c.sizes-code.ensures ∙ c.if-code-ne0.false) (ap (λ (m : Mem). out 0 m) c.free_all.ensures)
 
 pub free_all_spec : {M : Type 1} → statement M
 free_all_spec = tie.close (tie.spec (λ c κs. search rules) returns free_all_requires (λ c. search rules) (λ c. search rules) returns_2)

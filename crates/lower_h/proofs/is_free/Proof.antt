@@ -10,33 +10,29 @@ use Rattle.lower_h.proofs.Cases.{by_small, by_huge}
 use Rattle.lower_h.proofs.is_free.Statement.{statement}
 use Rattle.lower_h.proofs.is_free.Tie as tie
 
-returns : tie.Need-returns
+returns : tie.Need-returns-then-code-ne0
 unfolding spec.is_free
-returns c = rw (ne_eqb _ 0 (λ z. c.if1.true (c.before.block.ensures ∙ z)), c.before.block.ensures)
+returns c = rw (ne_eqb _ 0 (λ z. c.if-code-ne0.true (c.block-code.ensures ∙ z)), c.block-code.ensures)
 
-is_free_requires : tie.Need-is-free-requires
+is_free_requires : tie.Need-is_free-requires
 is_free_requires c κs =
-    let k = c.before in
-    let a = k.before.before.before.before.args in
-    (k.before.before.before.before.requires, c.if2.true, (a.n, a.t, blocked _ _ _ _ _ _ (sym k.before.block.ensures ∙ k.if1.false)))
+    let a = c.args in
+    (c.requires, c.if-order-h.true, (a.n, a.t, blocked _ _ _ _ _ _ (sym c.block-code.ensures ∙ c.if-code-ne0.false)))
 
-returns_2 : tie.Need-returns-2
+returns_2 : tie.Need-returns-then-order-h
 unfolding spec.is_free
 returns_2 c =
-    let k = c.before.before in
-    rw (eq-eqb _ 0 (sym k.before.block.ensures ∙ k.if1.false)) (ap (answered 0) (by_small _ _ c.before.if2.true c.is_free.ensures))
+    rw (eq-eqb _ 0 (sym c.block-code.ensures ∙ c.if-code-ne0.false)) (ap (answered 0) (by_small _ _ c.if-order-h.true c.is_free.ensures))
 
-is_free_requires_2 : tie.Need-is-free-requires-2
+is_free_requires_2 : tie.Need-is_free-requires-2
 is_free_requires_2 c κs =
-    let k = c.before in
-    let a = k.before.before.before.before.args in
-    (k.before.before.before.before.requires, c.if2.false, (a.n, a.t, length a.rows.now, blocked _ _ _ _ _ _ (sym k.before.block.ensures ∙ k.if1.false)))
+    let a = c.args in
+    (c.requires, c.if-order-h.false, (a.n, a.t, length a.rows.now, blocked _ _ _ _ _ _ (sym c.block-code.ensures ∙ c.if-code-ne0.false)))
 
-returns_3 : tie.Need-returns-3
+returns_3 : tie.Need-returns
 unfolding spec.is_free
 returns_3 c =
-    let k = c.before.before in
-    rw (eq-eqb _ 0 (sym k.before.block.ensures ∙ k.if1.false)) (ap (answered 0) (by_huge _ _ c.before.if2.false c.is-free2.ensures))
+    rw (eq-eqb _ 0 (sym c.block-code.ensures ∙ c.if-code-ne0.false)) (ap (answered 0) (by_huge _ _ c.if-order-h.false c.is_free-2.ensures))
 
 pub is_free_spec : {M : Type 1} → statement M
 is_free_spec = tie.close (tie.spec (λ c κs. search rules) returns is_free_requires returns_2 is_free_requires_2 returns_3)

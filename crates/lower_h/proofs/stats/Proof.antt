@@ -9,18 +9,17 @@ use Rattle.rules.specs.Queries as spec
 use Rattle.lower_h.proofs.stats.Statement.{statement}
 use Rattle.lower_h.proofs.stats.Tie as tie
 
-returns : tie.Need-returns
+returns : tie.Need-returns-then-code-ne0
 unfolding spec.stats
-returns c = refused _ (λ (r : ℕ). spec.statistics r 0 0 0) c.before.sizes.ensures c.if1.true
+returns c = refused _ (λ (r : ℕ). spec.statistics r 0 0 0) c.sizes-code.ensures c.if-code-ne0.true
 
 all_requires : tie.Need-all-requires
 all_requires c κs =
-    let k = c.before.before.before.before in
-    (k.requires, (length k.args.rows.now, sized _ _ _ _ (sym c.before.sizes.ensures ∙ c.if1.false)))
+    (c.requires, (length c.args.rows.now, sized _ _ _ _ (sym c.sizes-code.ensures ∙ c.if-code-ne0.false)))
 
-returns_2 : tie.Need-returns-2
+returns_2 : tie.Need-returns
 unfolding spec.stats
-returns_2 c = answered _ _ (sym c.before.before.sizes.ensures ∙ c.before.if1.false) c.all.ensures
+returns_2 c = answered _ _ (sym c.sizes-code.ensures ∙ c.if-code-ne0.false) c.all.ensures
 
 pub stats_spec : {M : Type 1} → statement M
 stats_spec = tie.close (tie.spec (λ c κs. search rules) returns all_requires returns_2)

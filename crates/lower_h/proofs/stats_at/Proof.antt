@@ -8,16 +8,16 @@ use Rattle.rules.specs.Queries as spec
 use Rattle.lower_h.proofs.stats_at.Statement.{statement}
 use Rattle.lower_h.proofs.stats_at.Tie as tie
 
-returns : tie.Need-returns
+returns : tie.Need-returns-then-code-ne0
 unfolding spec.stats_at
-returns c = refused _ (λ (r : ℕ). spec.statistics r 0 0 0) c.before.frame.ensures c.if1.true
+returns c = refused _ (λ (r : ℕ). spec.statistics r 0 0 0) c.frame-code.ensures c.if-code-ne0.true
 
 at_requires : tie.Need-at-requires
-at_requires c κs = let k = c.before.before.before.before in (k.requires, (k.args.n, framed _ _ _ _ _ (sym c.before.frame.ensures ∙ c.if1.false)))
+at_requires c κs = (c.requires, (c.args.n, framed _ _ _ _ _ (sym c.frame-code.ensures ∙ c.if-code-ne0.false)))
 
-returns_2 : tie.Need-returns-2
+returns_2 : tie.Need-returns
 unfolding spec.stats_at
-returns_2 c = answered _ _ (sym c.before.before.frame.ensures ∙ c.before.if1.false) c.at.ensures
+returns_2 c = answered _ _ (sym c.frame-code.ensures ∙ c.if-code-ne0.false) c.at.ensures
 
 pub stats_at_spec : {M : Type 1} → statement M
 stats_at_spec = tie.close (tie.spec (λ c κs. search rules) returns at_requires returns_2)

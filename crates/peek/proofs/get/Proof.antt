@@ -4,15 +4,12 @@ use Rattle.peek.proofs.Peeks.{peek_done, peek_refused}
 use Rattle.peek.proofs.get.Statement.{statement}
 use Rattle.peek.proofs.get.Tie as tie
 
-returns : tie.Need-returns
+returns : tie.Need-returns-then-got-eq0
 returns c =
-    let given = c.before.before.before.before in
-    let chosen = given.before.before.before in
-    let asked = chosen.before.before.before.before.before.before in
-    peek_done _ _ _ _ _ _ _ asked.get.ensures chosen.if1.true _ _ given.put.ensures
+    peek_done _ _ _ _ _ _ _ c.get-got.ensures c.if-got-eq0.true _ _ c.put.ensures
 
-returns_2 : tie.Need-returns-2
-returns_2 c = peek_refused _ _ _ _ _ _ _ c.before.before.before.before.before.before.get.ensures c.if1.false
+returns_2 : tie.Need-returns-else-got-eq0
+returns_2 c = peek_refused _ _ _ _ _ _ _ c.get-got.ensures c.if-got-eq0.false
 
 pub get_spec : {M : Type 1} → statement M
 get_spec =
