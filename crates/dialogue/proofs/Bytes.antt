@@ -10,7 +10,7 @@ use lib.Dec.{eqb}
 use lib.ListN.{length, take}
 use lib.Seq.{take_all, take-append-le, length-take-le}
 use borrow.Author.Tests.{eqb-true, eqb-false}
-use Rattle.bytes.specs.Bytes.{index_of, index_after}
+use Rattle.dialogue.specs.Bytes.{index_of, index_after}
 use Rattle.lines.specs.Bytes.{LF}
 use Rattle.dialogue.specs.Whole.{Unended}
 

@@ -2,17 +2,17 @@
 use mathlib.Core.Path.{◌≡◌, refl, sym, ap, ap₂, ◌∙◌}
 use mathlib.Core.Bool.{Bool, true, false, ◌&&◌}
 use mathlib.Core.Logic.{◌⊎◌, inl, inr, ⊎_elim}
-use mathlib.Core.List.{List, [], ◌∷◌, ◌++◌, append_assoc, append-nil}
+use mathlib.Core.List.{List, [], ◌∷◌, ◌++◌, append-nil}
 use Prim.Native.Nat.{ℕ, ◌+◌, ◌-◌, ◌≤◌, ◌<◌, min}
 use native.Mathlib.Decide.{dec_le, dec_lt}
 use native.Mathlib.Omega.{arith}
 use lib.Dec.{leb, ltb}
 use lib.ListN.{length, take, drop, length-drop}
-use lib.Seq.{take_all, take-length, take_at, take-add, take-append-add, length-take-le}
+use lib.Seq.{take_all, take_at, take-add, take-append-add, length-take-le}
 use borrow.Author.Tests.{lt-ltb, leb-false}
 use Rattle.base.specs.Code.{Out, out}
 use Rattle.base.specs.Size.{huge_order}
-use Rattle.bytes.specs.Bytes.{index_of, slice}
+use Rattle.dialogue.specs.Bytes.{index_of}
 use Rattle.rules.specs.State.{Mem}
 use Rattle.lines.specs.declared.Answer.{Answer}
 use Rattle.lines.specs.Answer.{answer_text, answer_to, text_to}
@@ -41,41 +41,31 @@ module _ (line part : List ℕ) (kept n : ℕ) (most : kept ≤ 65) (room : 65 �
   ]
 
   -- a copy of the part's first n bytes goes behind what is kept
-  pub kept_text : (copied more rest : List ℕ) → copied ≡ take (length (take n part)) (take n part) ++ more
-      → take (kept + n) (take kept line ++ (copied ++ rest)) ≡ take 65 (take kept line ++ part)
-  kept_text copied more rest e =
+  pub kept_text : (copied rest : List ℕ) → copied ≡ take n part → take (kept + n) (take kept line ++ (copied ++ rest)) ≡ take 65 (take kept line ++ part)
+  kept_text copied rest e =
       let front = take kept line in
       let front_long : length front ≡ kept = length-take-le kept line (omega arith) in
       let part_long : length (take n part) ≡ n = length-take-le n part (omega arith) in
       let whole : length front + (65 - kept) ≡ 65 = omega arith in
-      rw (e, take-length (take n part), append_assoc (take n part) more rest)
-      (ap (λ (k : ℕ). take (k + n) (front ++ (take n part ++ (more ++ rest)))) (sym front_long)
-      ∙ take-append-add front (take n part ++ (more ++ rest)) n
-      ∙ ap (λ (x : List ℕ). front ++ x) (take_at (take n part) (more ++ rest) n part_long ∙ sym kept_part)
+      rw e
+      (ap (λ (k : ℕ). take (k + n) (front ++ (take n part ++ rest))) (sym front_long)
+      ∙ take-append-add front (take n part ++ rest) n
+      ∙ ap (λ (x : List ℕ). front ++ x) (take_at (take n part) rest n part_long ∙ sym kept_part)
       ∙ sym (take-append-add front part (65 - kept))
       ∙ ap (λ (k : ℕ). take k (front ++ part)) whole)
 
 -- ---- a line ends in the input, or none does
 
-abbrev found : List ℕ → ℕ
-found input = index_of LF (slice 0 (length input) input)
-
-found_is : (input : List ℕ) → found input ≡ index_of LF input
-unfolding slice
-found_is input = ap (index_of LF) (take-length input)
-
-module _ (n t : ℕ) (m : Mem) (l l' input : List ℕ) (e : ℕ) (short : length l ≤ 65) (e_is : e ≡ 0 + found input) (l'_is : l' ≡ take 65 (l ++ take e input)) where
+module _ (n t : ℕ) (m : Mem) (l l' input : List ℕ) (e : ℕ) (short : length l ≤ 65) (e_is : e ≡ index_of LF input) (l'_is : l' ≡ take 65 (l ++ take e input)) where
   pub feed_kept : out [] (dialogue n t m l') ≡ fed (dialogue n t m l) (take e input)
   feed_kept =
-      let first : e ≡ index_of LF input = omega (arith, found_is input) in
-      rw l'_is (sym (fed_unended n t m l (take e input) short (rw first (find_unended input))))
+      rw l'_is (sym (fed_unended n t m l (take e input) short (rw e_is (find_unended input))))
 
   pub feed_ended : e ≤ length input → (e ≡ length input → ⊥) → {turn : Turn} {m' : Mem} → out turn m' ≡ answered huge_order n t m (read_line l')
       → out (turn.answer ∷ []) (dialogue turn.n turn.t m' []) ≡ fed (dialogue n t m l) (take (e + 1) input)
   unfolding fed ended
   feed_ended h more made =
-      let first : e ≡ index_of LF input = omega (arith, found_is input) in
-      let cut : take (e + 1) input ≡ take e input ++ (LF ∷ []) = rw first (find_ends input (omega arith)) in
+      let cut : take (e + 1) input ≡ take e input ++ (LF ∷ []) = rw e_is (find_ends input (omega arith)) in
       ap (λ (o : Out Turn Mem). out ((taken o).answer ∷ []) (taken o).left) made
       ∙ sym (rw cut (fed_parts (dialogue n t m l) (take e input) (LF ∷ []) ∙ ap (λ (o : Out (List Answer) Dialogue). fed_on o (LF ∷ [])) (sym feed_kept)))
 

@@ -1,3 +1,4 @@
+pub mod Bytes
 pub mod Dialogue
 pub mod Feeds
 pub mod Whole

@@ -8,6 +8,8 @@ ghost use Rattle.base.specs.Size.{huge_order};
 ghost use Rattle.rules.specs.State.{mem};
 ghost use Rattle.lines.specs.Answer.{text_to};
 ghost use Rattle.asks.specs.Turn.{answered};
+ghost use Rattle.lines.specs.Bytes.{LF};
+ghost use Rattle.dialogue.specs.Bytes.{index_of};
 ghost use Rattle.dialogue.specs.Dialogue.{finished, printed};
 ghost use Rattle.dialogue.specs.Feeds.{held, Ready, replied, Feeds, Serves};
 
@@ -96,8 +98,19 @@ fn keep(line: &mut [u8], kept: usize, part: &[u8]) -> usize
     ensures { (result ≤ 65) × (take result line.new ≡ take 65 (take kept line.old ++ part.now)) }
 {
     let n = lesser(part.len(), KEPT_MAX - kept);
-    bytes::copy(&part[..n], &mut line[kept..]);
-    kept + n
+    let end = kept + n;
+    line[kept..end].copy_from_slice(&part[..n]);
+    end
+}
+
+// Where the first LF of the input stands, or how long the input is where it has none.
+fn find(input: &[u8]) -> usize
+    ensures { (result ≡ index_of LF input.now) × (result ≤ length input.now) }
+{
+    input
+        .iter()
+        .position(|b| *b == b'\n')
+        .unwrap_or(input.len())
 }
 
 // Feeds the input up to the end of a line and makes the line's call, or keeps all of it where no line ends in it.
@@ -111,7 +124,7 @@ pub fn feed(
     requires { Ready state line.old }
     ensures { Feeds (held state rows.old entries.old line.old) input.now result (held result.state rows.new entries.new line.new) }
 {
-    let end = bytes::scan::find(input, 0, input.len(), b'\n');
+    let end = find(input);
     let kept = keep(line, state.kept, &input[..end]);
     if end == input.len() {
         return Fed {

@@ -12,43 +12,43 @@ use Rattle.dialogue.proofs.feed.Statement.{statement}
 use Rattle.dialogue.proofs.feed.Tie as tie
 
 -- where LF was looked for, from where a part of the line was kept; and where the function begins
-abbrev place : tie.After-keep → tie.After-find
-place c = c.before.before.before
+abbrev place : tie.After-keep-kept → tie.After-find-end
+place c = c.before.before
 
-abbrev start : tie.After-find → tie.Start
+abbrev start : tie.After-find-end → tie.Start
 start c = c.before.before.before.before.before
 
 -- what was kept at first
-short : (c : tie.After-find) → length (take (start c).args.state.kept (start c).args.line.now) ≤ 65
+short : (c : tie.After-find-end) → length (take (start c).args.state.kept (start c).args.line.now) ≤ 65
 short c = omega (arith, length-take (start c).args.state.kept (start c).args.line.now, (start c).requires.kept)
 
-slice_aggregate_keep : tie.Need-slice-aggregate-keep
-slice_aggregate_keep c = let found = c.before.before in sym (length-take-le found.find.result (start found).args.input.now found.find.ensures.1)
+slice_aggregate_keep : tie.Need-slice_bounds-keep-end
+slice_aggregate_keep c = let found = c.before in sym (length-take-le found.find-end.result (start found).args.input.now found.find-end.ensures.1)
 
-returns : tie.Need-returns
+returns : tie.Need-returns-then-end-input
 returns c =
     let kept = c.before.before.before in
     let found = place kept in record {
-      kept = kept.keep.ensures.0;
-      within = found.find.ensures.1;
-      stops = λ e. c.if1.true;
-      says = feed_kept _ _ _ _ _ (start found).args.input.now _ (short found) found.find.ensures.0 kept.keep.ensures.1;
+      kept = kept.keep-kept.ensures.0;
+      within = found.find-end.ensures.1;
+      stops = λ e. c.if-end-input.true;
+      says = feed_kept _ _ _ _ _ (start found).args.input.now _ (short found) found.find-end.ensures.0 kept.keep-kept.ensures.1;
     }
 
-slice_aggregate_read : tie.Need-slice-aggregate-read
-slice_aggregate_read c = let kept = c.before.before.before.before.before.before in sym (length-take-le kept.keep.result kept.keep.new.0 (omega (arith, kept.keep.ensures.0, kept.keep.auto.0)))
+slice_aggregate_read : tie.Need-slice_bounds-read-end-2
+slice_aggregate_read c = sym (length-take-le c.keep-kept.result c.keep-kept.new.line (omega (arith, c.keep-kept.ensures.0, c.keep-kept.auto.line)))
 
-returns_2 : tie.Need-returns-2
+returns_2 : tie.Need-returns
 returns_2 c =
     let made = c.before.before.before.before.before in
-    let kept = made.before.before.before.before.before.before.before.before in
+    let kept = made.before.before.before.before.before.before.before in
     let found = place kept in
-    let more = made.before.before.before.before.before.if1.false in record {
+    let more = made.if-end-input.false in record {
       kept = omega arith;
-      within = omega (arith, found.find.ensures.1, more);
+      within = omega (arith, found.find-end.ensures.1, more);
       stops = λ e. absurd (one_said e);
-      says = feed_ended _ _ _ _ _ (start found).args.input.now _ (short found) found.find.ensures.0 kept.keep.ensures.1 found.find.ensures.1 more
-          (made.take.ensures ∙ ap (answered huge_order _ _ _) made.before.read.ensures);
+      says = feed_ended _ _ _ _ _ (start found).args.input.now _ (short found) found.find-end.ensures.0 kept.keep-kept.ensures.1 found.find-end.ensures.1 more
+          (made.take-turn.ensures ∙ ap (answered huge_order _ _ _) made.read.ensures);
     }
 
 pub feed_spec : {M : Type 1} → statement M

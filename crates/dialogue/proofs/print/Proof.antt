@@ -7,14 +7,13 @@ use Rattle.dialogue.proofs.Cases.{one_printed}
 use Rattle.dialogue.proofs.print.Statement.{statement}
 use Rattle.dialogue.proofs.print.Tie as tie
 
-returns : tie.Need-returns
+returns : tie.Need-returns-in-Nothing
 unfolding printed
-returns c = rw c.enum_told.given.1 (text_none _ _)
+returns c = rw c.in-Nothing.is (text_none _ _)
 
-returns_2 : tie.Need-returns-2
+returns_2 : tie.Need-returns-in-One
 returns_2 c =
-    let wrote = c.before.before in
-    rw wrote.before.before.before.reply.given.1 (wrote.write.ensures ∙ one_printed _ _ _)
+    rw c.in-One.is (c.write.ensures ∙ one_printed _ _ _)
 
 pub print_spec : {M : Type 1} → statement M
 print_spec =

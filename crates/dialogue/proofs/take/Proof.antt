@@ -5,25 +5,23 @@ use Rattle.asks.specs.Turn.{answered}
 use Rattle.dialogue.proofs.take.Statement.{statement}
 use Rattle.dialogue.proofs.take.Tie as tie
 
-returns : tie.Need-returns
+returns : tie.Need-returns-in-Starts
 unfolding answered
 returns c =
-    let made = c.before.before.before.before in
-    rw made.before.before.before.before.line.given.1 made.start.ensures
+    rw c.in-Starts.is c.start.ensures
 
-returns_2 : tie.Need-returns-2
+returns_2 : tie.Need-returns-in-Changes
 unfolding answered
 returns_2 c =
-    let made = c.before.before.before.before in
-    rw made.before.before.before.before.line2.given.1 (keeps_written _ _ made.change.ensures)
+    rw c.in-Changes.is (keeps_written _ _ c.change.ensures)
 
-returns_3 : tie.Need-returns-3
+returns_3 : tie.Need-returns-in-Asks
 unfolding answered
-returns_3 c = rw c.before.before.before.before.line3.given.1 (keeps _ _ c.ask.ensures)
+returns_3 c = rw c.in-Asks.is (keeps _ _ c.ask.ensures)
 
-returns_4 : tie.Need-returns-4
+returns_4 : tie.Need-returns-in-Bad
 unfolding answered
-returns_4 c = rw c.before.enum_told.given.1 (keeps _ _ c.of_code.ensures)
+returns_4 c = rw c.in-Bad.is (keeps _ _ c.of_code.ensures)
 
 pub take_spec : {M : Type 1} → statement M
 take_spec =

@@ -1,0 +1,10 @@
+-- `dialogue::keep` meets its contract: a copy behind what is kept. Assumes nothing.
+use Rattle.std.proofs.Common.{arith}
+use Rattle.dialogue.proofs.Cases.{kept_text}
+use Rattle.dialogue.proofs.keep.Goals as goal
+
+pub returns : goal.returns
+returns c = (
+  omega (arith, c.lesser-n.ensures),
+  kept_text c.args.line.now c.args.part.now c.args.kept c.lesser-n.result c.requires.0 c.requires.1 c.lesser-n.ensures _ _ c.copy_from_slice.ensures.after,
+)
