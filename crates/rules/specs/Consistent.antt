@@ -1,6 +1,7 @@
 -- Document 01, "Numbers and memory": consistent states, and which frames are free.
 use Rattle.rules.specs.State.{lengths_of}
-use Rattle.rules.specs.Words.{◌≡◌, ◌⊎◌, Bool, true, false, not, ◌&&◌, ℕ, ◌+◌, ◌*◌, ◌/◌, ◌^◌, ◌≤◌, ◌<◌, eqb, leb, ltb, get_or, all, count, bit_is, mark, huge_of, entries_needed, Sized, Mem, entry_of, clear_of}
+use Rattle.std.specs.Prelude.{◌≡◌, Bool, true, false, not, ◌&&◌, ◌⊎◌, ℕ, ◌+◌, ◌*◌, ◌/◌, ◌^◌, ◌≤◌, ◌<◌, eqb, leb, ltb, get_or}
+use Rattle.rules.specs.Words.{all, count, bit_is, mark, huge_of, entries_needed, Sized, Mem, entry_of, clear_of}
 
 -- rows and entries of the widths that the slices have
 pub record Fits (m : Mem) : Type 0 where

@@ -1,7 +1,8 @@
 -- What calls make of states. Demand 2: on a consistent state, what each call answers in terms of free and held frames, and which frames it turns.
 pub use Rattle.base.specs.Ring.{steps_to}
 use Rattle.bitfield_rules.specs.Calls.{answered}
-use Rattle.rules.specs.Words.{◌≡◌, ◌⊎◌, true, false, not, ◌&&◌, ◌||◌, ℕ, ◌+◌, ◌*◌, ◌/◌, ◌%◌, ◌^◌, ◌≤◌, ◌<◌, eqb, ltb, pick, all, count, out, unless, Huge, rows_per, mark, huge_of, tree_of, top_order, block_at, ceil, trees_needed, entries_needed, group_of, Mem, block_refusal, start_refusal, frame_refusal, got, statistics, entry_of, entries_are, fault, recovered}
+use Rattle.std.specs.Prelude.{◌≡◌, true, false, not, ◌&&◌, ◌||◌, ◌⊎◌, ℕ, ◌+◌, ◌*◌, ◌/◌, ◌%◌, ◌^◌, ◌≤◌, ◌<◌, eqb, ltb}
+use Rattle.rules.specs.Words.{pick, all, count, out, unless, Huge, rows_per, mark, huge_of, tree_of, top_order, block_at, ceil, trees_needed, entries_needed, group_of, Mem, block_refusal, start_refusal, frame_refusal, got, statistics, entry_of, entries_are, fault, recovered}
 use Rattle.rules.specs.Call.{Call, left}
 use Rattle.rules.specs.Calls.{get, get_at, put, is_free, stats, stats_at, free_all, reserve_all, audit, recover}
 use Rattle.rules.specs.Audit.{reason}

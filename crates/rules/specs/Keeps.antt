@@ -1,5 +1,6 @@
 -- Of each call, on any memory: its refusal numbers, and what it never touches.
-use Rattle.rules.specs.Words.{◌≡◌, Bool, false, not, ◌||◌, List, [], ◌∷◌, ℕ, suc, ◌+◌, ◌*◌, ◌%◌, ◌^◌, ◌≤◌, eqb, leb, ltb, length, get_or, replicate, pick, or_else, Huge, is_tree, top_order, rows_needed, entries_needed, Mem, entry_of}
+use Rattle.std.specs.Prelude.{◌≡◌, Bool, false, not, ◌||◌, List, [], ◌∷◌, ℕ, suc, ◌+◌, ◌*◌, ◌%◌, ◌^◌, ◌≤◌, eqb, leb, ltb, length, get_or, replicate}
+use Rattle.rules.specs.Words.{pick, or_else, Huge, is_tree, top_order, rows_needed, entries_needed, Mem, entry_of}
 use Rattle.rules.specs.Call.{BlockCall, FrameCall, AllCall, Call, called, code, left}
 use Rattle.rules.specs.Steps.{steps}
 use Rattle.rules.specs.Starts.{free_all, reserve_all}

@@ -1,5 +1,6 @@
 -- The mark: on any memory of the slices' widths, which huge frames have it after each call.
-use Rattle.rules.specs.Words.{◌≡◌, Bool, false, not, ◌&&◌, ◌||◌, List, ℕ, ◌+◌, ◌-◌, ◌^◌, ◌<◌, eqb, leb, get_or, Huge, mark, huge_of, entries_needed, Mem, entry_of}
+use Rattle.std.specs.Prelude.{◌≡◌, Bool, false, not, ◌&&◌, ◌||◌, List, ℕ, ◌+◌, ◌-◌, ◌^◌, ◌<◌, eqb, leb, get_or}
+use Rattle.rules.specs.Words.{Huge, mark, huge_of, entries_needed, Mem, entry_of}
 use Rattle.rules.specs.Numbers.{whole}
 use Rattle.rules.specs.Starts.{free_all, reserve_all}
 use Rattle.rules.specs.Call.{RowCall, BlockCall, Call, called, left}

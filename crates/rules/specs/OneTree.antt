@@ -1,5 +1,6 @@
 -- Document 01, "One tree at a time".
-use Rattle.rules.specs.Words.{◌≡◌, ℕ, ◌*◌, ◌/◌, ◌<◌, get_or, Huge, rows_per, tree_of, rows_needed, Mem, sizes_refusal, entry_of}
+use Rattle.std.specs.Prelude.{◌≡◌, ℕ, ◌*◌, ◌/◌, ◌<◌, get_or}
+use Rattle.rules.specs.Words.{Huge, rows_per, tree_of, rows_needed, Mem, sizes_refusal, entry_of}
 use Rattle.rules.specs.Call.{Call, called, left}
 
 -- a call is on tree y; "stats, audit, recover .. read everything and are not covered"

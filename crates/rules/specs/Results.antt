@@ -1,5 +1,6 @@
 -- Document 01, "What a reader may conclude" and "Lines to check".
-use Rattle.rules.specs.Words.{◌≡◌, Bool, true, ◌&&◌, List, [], ◌∷◌, ℕ, ◌-◌, ◌^◌, eqb, replicate, huge_order, mark, Mem, mem, entry_of}
+use Rattle.std.specs.Prelude.{◌≡◌, Bool, true, ◌&&◌, List, [], ◌∷◌, ℕ, ◌-◌, ◌^◌, eqb, replicate}
+use Rattle.rules.specs.Words.{huge_order, mark, Mem, mem, entry_of}
 use Rattle.row.specs.Row as row
 use Rattle.row.specs.Ensured.{FindsInRow}
 use Rattle.bitfield_rules.specs.Ensured.{Sets, Fills, Toggles, TellsZero, CountsZeros, FindsZeros, SetsFirstZeros}

@@ -1,5 +1,6 @@
 -- Runs of calls of one N and one T: the ledger of frames taken and given back, demand 3, and two claimants that never share a frame.
-use Rattle.rules.specs.Words.{◌≡◌, Bool, true, false, not, ◌&&◌, ◌||◌, List, [], ◌∷◌, ℕ, eqb, get_or, Huge, Mem}
+use Rattle.std.specs.Prelude.{◌≡◌, Bool, true, false, not, ◌&&◌, ◌||◌, List, [], ◌∷◌, ℕ, eqb, get_or}
+use Rattle.rules.specs.Words.{Huge, Mem}
 use Rattle.rules.specs.Call.{RowCall, BlockCall, Call, called, left}
 use Rattle.rules.specs.Consistent.{Consistent, free, held, in_block}
 

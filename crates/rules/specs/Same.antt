@@ -1,5 +1,6 @@
 -- The state is the needed rows and entries: what determines them, and that nothing beyond them is read.
-use Rattle.rules.specs.Words.{◌≡◌, ℕ, ◌<◌, get_or, Out, Huge, rows_needed, entries_needed, sizes_refusal, Mem, entry_of}
+use Rattle.std.specs.Prelude.{◌≡◌, ℕ, ◌<◌, get_or}
+use Rattle.rules.specs.Words.{Out, Huge, rows_needed, entries_needed, sizes_refusal, Mem, entry_of}
 use Rattle.rules.specs.Starts.{free_all, reserve_all}
 use Rattle.rules.specs.Call.{Call, called}
 use Rattle.rules.specs.Consistent.{Consistent, free}

@@ -1,5 +1,4 @@
 -- The words of the statements about calls, brought together once.
-pub use Rattle.std.specs.Prelude.{◌≡◌, Bool, true, false, not, ◌&&◌, ◌||◌, ◌⊎◌, List, [], ◌∷◌, ℕ, suc, ◌+◌, ◌-◌, ◌*◌, ◌/◌, ◌%◌, ◌^◌, ◌≤◌, ◌<◌, eqb, leb, ltb, length, get_or, replicate}
 pub use Rattle.base.specs.Walk.{pick, first, all, count}
 pub use Rattle.base.specs.Code.{Out, out, unless, or_else}
 pub use Rattle.base.specs.Size.{Huge, rows_per, huge_order}

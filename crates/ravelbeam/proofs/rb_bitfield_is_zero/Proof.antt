@@ -5,7 +5,7 @@ use Rattle.ravelbeam.proofs.rb_bitfield_is_zero.Statement.{statement}
 use Rattle.ravelbeam.proofs.rb_bitfield_is_zero.Tie as tie
 
 returns : tie.Need-returns
-returns c = rw (flag_is c.before.is_zero.result.yes, ← c.before.is_zero.ensures)
+returns c = rw (flag_is c.is_zero-answer.result.yes, ← c.is_zero-answer.ensures)
 
 pub rb_bitfield_is_zero_spec : {M : Type 1} → statement M
 rb_bitfield_is_zero_spec = tie.close (tie.spec (λ c κs. search rules) (λ c. search rules) returns)

@@ -5,17 +5,17 @@ use Rattle.row.specs.Row.{numbers_of}
 use Rattle.ravelbeam.proofs.rb_first_zeros_aligned.Statement.{statement}
 use Rattle.ravelbeam.proofs.rb_first_zeros_aligned.Tie as tie
 
-enum_told : tie.Need-enum-told
+enum_told : tie.Need-enum_told-1
 enum_told c = search rules
 
-returns : tie.Need-returns
-returns c = sym (ap numbers_of c.before.found.given.1) ∙ c.before.before.before.first-zeros-aligned.ensures
+returns : tie.Need-returns-in-At
+returns c = sym (ap numbers_of c.in-At.is) ∙ c.first_zeros_aligned-found.ensures
 
-returns_2 : tie.Need-returns-2
-returns_2 c = sym (ap numbers_of c.enum_told.given.1) ∙ c.before.before.first-zeros-aligned.ensures
+returns_2 : tie.Need-returns-in-Full
+returns_2 c = sym (ap numbers_of c.in-Full.is) ∙ c.first_zeros_aligned-found.ensures
 
-returns_3 : tie.Need-returns-3
-returns_3 c = sym (ap numbers_of c.enum-told2.given.1) ∙ c.before.before.first-zeros-aligned.ensures
+returns_3 : tie.Need-returns-in-BadOrder
+returns_3 c = sym (ap numbers_of c.in-BadOrder.is) ∙ c.first_zeros_aligned-found.ensures
 
 pub rb_first_zeros_aligned_spec : {M : Type 1} → statement M
 rb_first_zeros_aligned_spec =

@@ -17,25 +17,25 @@ nine : Huge huge_order
 nine = record { low = omega arith; high = omega arith }
 
 -- past the refusals
-passed : (e : tie.Else1) → let s = e.before.before.before.before.before.args in frame_refusal huge_order s.n s.t (mem s.rows.now s.entries.now) s.frame ≡ 0
-passed e = sym e.before.before.tree-run-code.ensures ∙ e.if1.false
+passed : (e : tie.Else-code-ne0) → let s = e.args in frame_refusal huge_order s.n s.t (mem s.rows.now s.entries.now) s.frame ≡ 0
+passed e = sym e.tree_run_code-code.ensures ∙ e.if-code-ne0.false
 
-returns : tie.Need-returns
+returns : tie.Need-returns-then-code-ne0
 unfolding tree_run
 returns c =
-    let code = c.before.before.tree-run-code.ensures in
-    ap (run _ 0) (ap length c.before.tree-run.ensures ∙ run_refused _ _ _ _ _ (λ e. c.if1.true (code ∙ e))) ∙ refused _ (λ r. run r 0 0) code c.if1.true
+    let code = c.tree_run_code-code.ensures in
+    ap (run _ 0) (ap length c.tree_run-run.ensures ∙ run_refused _ _ _ _ _ (λ e. c.if-code-ne0.true (code ∙ e))) ∙ refused _ (λ r. run r 0 0) code c.if-code-ne0.true
 
-tree_first_requires : tie.Need-tree-first-requires
+tree_first_requires : tie.Need-tree_first-requires
 tree_first_requires c κs =
-    let s = c.before.before.before.before.before.args in
+    let s = c.args in
     (nine, (framed huge_order s.n s.t _ s.frame (passed c)).sized.tree)
 
-returns_2 : tie.Need-returns-2
+returns_2 : tie.Need-returns
 unfolding tree_run
 returns_2 c =
     let k = c.before in
-    answered _ _ (passed k) (ap₂ (run 0) c.tree-first.ensures (ap length k.before.tree-run.ensures ∙ run_long nine _ _ _ _ (passed k)))
+    answered _ _ (passed k) (ap₂ (run 0) c.tree_first.ensures (ap length k.tree_run-run.ensures ∙ run_long nine _ _ _ _ (passed k)))
 
 pub rb_tree_run_spec : {M : Type 1} → statement M
 rb_tree_run_spec =
