@@ -1,57 +1,51 @@
 // Replays lines of `trace`, by the same dialogue, and prints each answer with a digest of the needed entries and rows
 // after it. Its stored input and output are a sample of the Rust's own answers, and of the model's where the file
 // `answered` says so (oracle/sample makes all three). So a run shows equality with the Rust where there is none at hand.
-ghost use Rattle.std.specs.Prelude.{◌≤◌};
+#![tactic(auto)]
+
+ghost use Rattle.std.specs.Prelude.{◌≤◌, IfOk};
 ghost use Rattle.dialogue.specs.Feeds.{Ready};
 
 use dialogue::{Reply, State};
-use libc::{STDIN_FILENO, STDOUT_FILENO};
+use std::io::{self, Read};
 
-// FNV-1a: one byte more. The prime is 2^40 + 435, and the product wraps, as does each sum it is made of here.
+// The prime of FNV-1a, 2^40 + 435.
+const PRIME: u64 = 0x100_0000_01b3;
+
+// FNV-1a: one byte more. The product wraps.
 fn mixed(digest: u64, byte: u64) -> u64 {
-    let x = digest ^ byte;
-    let two = std::num::wrapping_add_u64(x, x << 1);
-    let four = std::num::wrapping_add_u64(x << 4, x << 5);
-    let six = std::num::wrapping_add_u64(x << 7, x << 8);
-    let low = std::num::wrapping_add_u64(std::num::wrapping_add_u64(two, four), six);
-    std::num::wrapping_add_u64(low, x << 40)
+    (digest ^ byte).wrapping_mul(PRIME)
 }
 
 // The digest with the k lowest bytes of a word, the lowest first.
 fn mixed_word(digest: u64, word: u64, k: usize) -> u64 {
     let mut d = digest;
     let mut w = word;
-    let mut i = 0;
-    while i < k {
+    for _ in 0..k {
         d = mixed(d, w % 256);
-        w = w / 256;
-        i += 1;
+        w /= 256;
     }
     d
 }
 
 fn mixed_entries(digest: u64, entries: &[u16]) -> u64 {
     let mut d = digest;
-    let mut i = 0;
-    while i < entries.len() {
-        d = mixed_word(d, wide(entries[i]), 2);
-        i += 1;
+    for entry in entries {
+        d = mixed_word(d, wide(*entry), 2);
     }
     d
 }
 
 fn mixed_rows(digest: u64, rows: &[u64]) -> u64 {
     let mut d = digest;
-    let mut i = 0;
-    while i < rows.len() {
-        d = mixed_word(d, rows[i], 8);
-        i += 1;
+    for row in rows {
+        d = mixed_word(d, *row, 8);
     }
     d
 }
 
 fn wide(entry: u16) -> u64 {
-    entry as u64
+    u64::from(entry)
 }
 
 // The number of rows or entries that are needed, of those there are.
@@ -75,7 +69,14 @@ fn digest(n: usize, t: usize, rows: &[u64], entries: &[u16]) -> u64 {
 }
 
 // Prints an answer, if there is one, for N frames in trees of T: the digest stands where its LF was.
-fn print(n: usize, t: usize, rows: &[u64], entries: &[u16], reply: Reply) {
+fn print(
+    rt: &impl Print,
+    n: usize,
+    t: usize,
+    rows: &[u64],
+    entries: &[u16],
+    reply: Reply,
+) -> io::Result<()> {
     let mut text = [0u8; 105];
     let end = dialogue::print(&mut text, 0, reply);
     if 0 < end {
@@ -83,20 +84,22 @@ fn print(n: usize, t: usize, rows: &[u64], entries: &[u16], reply: Reply) {
         let last = decimal::write(&mut text, end, digest(n, t, rows, entries) as usize);
         text[last] = b'\n';
         let all = last + 1;
-        io::write_all(STDOUT_FILENO, &text[..all]);
+        rt.write_all(&text[..all])?;
     }
+    Ok(())
 }
 
 // Answers the lines of a part of the input.
 fn serve(
+    rt: &impl Print,
     state: State,
     input: &[u8],
     line: &mut [u8],
     rows: &mut [u64],
     entries: &mut [u16],
-) -> State
+) -> io::Result<State>
     requires { Ready state line.old }
-    ensures { result.kept ≤ 65 }
+    ensures { IfOk result (λ left. left.kept ≤ 65) }
 {
     let mut now = state;
     let mut used = 0;
@@ -104,32 +107,37 @@ fn serve(
         let fed = dialogue::feed(now, &input[used..], line, rows, entries);
         let after = fed.state;
         let reply = fed.reply;
-        print(after.n, after.t, rows, entries, reply);
+        print(rt, after.n, after.t, rows, entries, reply)?;
         now = after;
         used += fed.used;
     }
-    now
+    Ok(now)
 }
 
-// The input in parts, as many as the sample could ever have. Each of its lines has an LF.
-fn main() {
+// The input in parts, each as large as what is there. Each of its lines has an LF. The number of parts is far beyond any use.
+fn main(rt: HostRuntime) -> io::Result<()> {
     let mut rows = [0u64; 4096];
     let mut entries = [0u16; 512];
     let mut line = [0u8; 65];
-    let mut input = io::large_buffer();
+    let mut input = [0u8; 65536];
     let mut state = State {
         n: 0,
         t: 0,
         kept: 0,
     };
-    let mut left: usize = 1_000_000;
-    while 0 < left {
-        let got = libc::read(STDIN_FILENO, &mut input);
-        let count = io::count(got, &input);
+    for _ in 0..u64::MAX {
+        let count = rt.stdin().read(&mut input)?;
         if count == 0 {
-            return;
+            break;
         }
-        state = serve(state, &input[..count], &mut line, &mut rows, &mut entries);
-        left -= 1;
+        state = serve(
+            &rt,
+            state,
+            &input[..count],
+            &mut line,
+            &mut rows,
+            &mut entries,
+        )?;
     }
+    Ok(())
 }

@@ -1,15 +1,34 @@
 // `trace`: reads lines of calls from standard input, makes each on 4,096 rows and 512 entries, all zero at the start, and
 // prints its answer: one line for each line. It reads what is there, and writes every answer before it reads again. What
-// it reads and prints goes through `dialogue`, which says all of it; here are only the calls of the C library.
-ghost use Rattle.std.specs.Prelude.{◌≤◌, length};
+// it reads and prints goes through `dialogue`, which says all of it; here are only the calls that read and write.
+#![tactic(auto)]
+
+ghost use Rattle.std.specs.Prelude.{◌≡◌, false, ◌≤◌, length, OnOk, IfErr, IsErrOf};
+ghost use Rattle.std.specs.Io.KnownBytes.{Appends};
+ghost use Rattle.dialogue.specs.Dialogue.{fed, finished, printed};
 ghost use Rattle.dialogue.specs.Feeds.{held, Ready};
-ghost use Rattle.trace.specs.Passes.{Passes};
+ghost use Rattle.trace.specs.Passes.{Passes, AnswersAll, AnswersPart};
 
 use dialogue::State;
-use libc::{STDERR_FILENO, STDIN_FILENO, STDOUT_FILENO};
+use std::fmt;
+use std::io::{Read, Write};
+use std::process::ExitCode;
 
-// A descriptor for a sign to the script that runs this program: all input was read, and all answers were written.
-const SIGN_FILENO: i32 = 3;
+// Why it stops before all input is read and all answers are written.
+#[derive(Clone, Copy)]
+enum Failure {
+    Unread,
+    Unwritten,
+}
+
+impl fmt::Display for Failure {
+    fn fmt<W: fmt::Write>(&self, f: &mut fmt::Formatter<W>) -> fmt::Result {
+        match self {
+            Failure::Unread => write!(f, "trace: standard input can't be read"),
+            Failure::Unwritten => write!(f, "trace: standard output can't be written"),
+        }
+    }
+}
 
 // What a part of the input leaves, and whether answers to it could not be written.
 #[derive(Drop)]
@@ -19,16 +38,19 @@ struct Passed {
 }
 
 // Answers a part of the input.
-fn pass(
+fn pass<W: Write>(
     state: State,
     input: &[u8],
     line: &mut [u8],
     rows: &mut [u64],
     entries: &mut [u16],
     text: &mut [u8],
+    output: &mut W,
 ) -> Passed
     requires { Ready state line.old × (84 ≤ length text.old) }
-    ensures { Passes (held state rows.old entries.old line.old) input.now result (held result.state rows.new entries.new line.new) }
+    ensures passes { Passes (held state rows.old entries.old line.old) input.now result (held result.state rows.new entries.new line.new) }
+    ensures writes { result.lost ≡ false → Appends (W.contents output.old) (W.contents output.new)
+        (printed (fed (held state rows.old entries.old line.old) input.now).answer) }
 {
     let mut now = state;
     let mut at = 0;
@@ -38,7 +60,7 @@ fn pass(
         let after = served.state;
         now = after;
         at += served.used;
-        if !io::write_all(STDOUT_FILENO, &text[..end]) {
+        if output.write_all(&text[..end]).is_err() {
             return Passed {
                 state: now,
                 lost: true,
@@ -51,65 +73,75 @@ fn pass(
     }
 }
 
-fn say_unread() {
-    io::write_all(STDERR_FILENO, b"trace: standard input can't be read\n");
-}
-
-fn say_unwritten() {
-    io::write_all(STDERR_FILENO, b"trace: standard output can't be written\n");
-}
-
-// Answers a last line that has no end. If that can be written, all is done.
-fn finish(state: State, line: &[u8], rows: &mut [u64], entries: &mut [u16], text: &mut [u8])
+// Answers a last line that has no end.
+fn finish<W: Write>(
+    state: State,
+    line: &[u8],
+    rows: &mut [u64],
+    entries: &mut [u16],
+    text: &mut [u8],
+    output: &mut W,
+) -> Result<(), Failure>
     requires { Ready state line.now × (84 ≤ length text.old) }
+    ensures writes { OnOk result (Appends (W.contents output.old) (W.contents output.new)
+        (printed (finished (held state rows.old entries.old line.now)).answer)) }
+    ensures unwritten { IfErr result (λ e. e ≡ Failure.Unwritten) }
 {
     let reply = dialogue::finish(state, line, rows, entries);
     let end = dialogue::print(text, 0, reply);
-    if io::write_all(STDOUT_FILENO, &text[..end]) {
-        io::write_all(SIGN_FILENO, b"done\n");
-    } else {
-        say_unwritten();
+    if output.write_all(&text[..end]).is_err() {
+        return Err(Failure::Unwritten);
     }
+    Ok(())
 }
 
 // The input in parts, each as large as what is there. The number of parts is far beyond any use.
-fn main() {
+fn run<R: Read, W: Write>(input: &mut R, output: &mut W) -> Result<(), Failure>
+    ensures whole { OnOk result (AnswersAll (R.remaining input.old) (W.contents output.old) (W.contents output.new)) }
+    ensures unread { IsErrOf result Failure.Unread
+        → AnswersPart (R.remaining input.old) (R.remaining input.new) (W.contents output.old) (W.contents output.new) }
+{
     let mut rows = [0u64; 4096];
     let mut entries = [0u16; 512];
     let mut line = [0u8; 65];
-    let mut input = io::large_buffer();
-    let mut text = io::large_buffer();
+    let mut part = [0u8; 65536];
+    let mut text = [0u8; 65536];
     let mut state = State {
         n: 0,
         t: 0,
         kept: 0,
     };
-    let mut left: usize = usize::MAX;
-    while 0 < left {
-        let got = libc::read(STDIN_FILENO, &mut input);
-        if got < 0 {
-            say_unread();
-            return;
-        }
-        let count = io::count(got, &input);
+    for _ in 0..u64::MAX {
+        let Ok(count) = input.read(&mut part) else {
+            return Err(Failure::Unread);
+        };
         if count == 0 {
-            finish(state, &line, &mut rows, &mut entries, &mut text);
-            return;
+            return finish(state, &line, &mut rows, &mut entries, &mut text, output);
         }
         let passed = pass(
             state,
-            &input[..count],
+            &part[..count],
             &mut line,
             &mut rows,
             &mut entries,
             &mut text,
+            output,
         );
         if passed.lost {
-            say_unwritten();
-            return;
+            return Err(Failure::Unwritten);
         }
         let after = passed.state;
         state = after;
-        left -= 1;
+    }
+    Err(Failure::Unread)
+}
+
+fn main(rt: HostRuntime) -> ExitCode {
+    match run(&mut rt.stdin(), &mut rt.stdout()) {
+        Ok(()) => ExitCode::SUCCESS,
+        Err(failure) => {
+            let _ = rt.eprintln(failure);
+            ExitCode::FAILURE
+        }
     }
 }
