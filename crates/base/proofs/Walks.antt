@@ -27,10 +27,10 @@ module _ (p : ℕ → Bool) (n : ℕ) where
   FirstAt i = (i ≤ n) × (first p (n - i) i ≡ first p n 0)
 
   pub first_start : FirstAt 0
-  first_start = (omega arith, rw sub-zero)
+  first_start = (omega arith, rw sub_zero)
     where
-      sub-zero : n - 0 ≡ n
-      sub-zero = omega arith
+      sub_zero : n - 0 ≡ n
+      sub_zero = omega arith
 
   pub first_found : (i : ℕ) → FirstAt i → i < n → p i ≡ true → i ≡ first p n 0
   unfolding first
@@ -54,10 +54,10 @@ module _ (p : ℕ → Bool) (n : ℕ) where
   AllAt i = (i ≤ n) × (all p (n - i) i ≡ all p n 0)
 
   pub all_start : AllAt 0
-  all_start = (omega arith, rw sub-zero)
+  all_start = (omega arith, rw sub_zero)
     where
-      sub-zero : n - 0 ≡ n
-      sub-zero = omega arith
+      sub_zero : n - 0 ≡ n
+      sub_zero = omega arith
 
   pub all_broken : (i : ℕ) → AllAt i → i < n → p i ≡ false → false ≡ all p n 0
   unfolding all

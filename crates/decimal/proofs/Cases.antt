@@ -15,13 +15,13 @@ use Rattle.base.specs.Code.{out}
 use Rattle.decimal.specs.Decimal.{digits, places, digits_end, value_at, number, number_at, number_to}
 use Rattle.decimal.proofs.Digits.{Digits, end_beyond, value_next, value_grows, length_digits}
 
-or-true : (x : Bool) → (x || true) ≡ true
-or-true true = refl
-or-true false = refl
+or_true : (x : Bool) → (x || true) ≡ true
+or_true true = refl
+or_true false = refl
 
-and-false : (x : Bool) → (x && false) ≡ false
-and-false true = refl
-and-false false = refl
+and_false : (x : Bool) → (x && false) ≡ false
+and_false true = refl
+and_false false = refl
 
 -- digits that end at e and say v
 module _ (l : List ℕ) (at e v : ℕ) (e_is : e ≡ digits_end l at) (v_is : v ≡ value_at l at (e - at)) where
@@ -29,7 +29,7 @@ module _ (l : List ℕ) (at e v : ℕ) (e_is : e ≡ digits_end l at) (v_is : v 
   unfolding number_at
   number_is h s f = ⊎_elim
       (λ q. let one : e ≡ at + 1 = omega arith in rw (← e_is, ← v_is, lt-ltb at e h, eq-eqb e (at + 1) one, lt-ltb v (2 ^ 64) f))
-      (λ q. rw (← e_is, ← v_is, lt-ltb at e h, ne_eqb (get_or l at 0) 48 q, or-true (eqb e (at + 1)), lt-ltb v (2 ^ 64) f))
+      (λ q. rw (← e_is, ← v_is, lt-ltb at e h, ne_eqb (get_or l at 0) 48 q, or_true (eqb e (at + 1)), lt-ltb v (2 ^ 64) f))
       s
 
   -- no digits
@@ -47,7 +47,7 @@ module _ (l : List ℕ) (at e v : ℕ) (e_is : e ≡ digits_end l at) (v_is : v 
   -- 2 ^ 64 or more
   pub none_large : 2 ^ 64 ≤ v → number false 0 0 ≡ number_at l at
   unfolding number_at
-  none_large h = rw (← e_is, ← v_is, le-ltb v (2 ^ 64) h, and-false)
+  none_large h = rw (← e_is, ← v_is, le-ltb v (2 ^ 64) h, and_false)
 
 -- digits that already say too much, whatever follows
 pub none_beyond : (l : List ℕ) (at i v : ℕ) → at ≤ i → i < length l → Digits l at (i + 1) → v ≡ value_at l at (i - at) → 2 ^ 64 ≤ v * 10 + (get_or l i 0 - 48)

@@ -91,14 +91,14 @@ module _ {h n : ℕ} {rs es : List ℕ} {row o x size first : ℕ} {found : Plac
         omega (arith, k.first_is, k.size_is, first_low H x l, frames_fit H)
 
   -- ---- none is found
-  module _ (none : found.code ≡ 0 → ⊥) (full : ℕ) (Full_is : full ≡ 2 ^ h) where
+  module _ (none : found.code ≡ 0 → ⊥) (full : ℕ) (full_is : full ≡ 2 ^ h) where
     -- a count above what a huge frame has is damage
     pub visit_above : full < entry_of es x → Damage ≡ visit h n (mem rs es) row o x
-    visit_above l = visit_searched (rw (ne_eqb found.code 0 none, ← Full_is, lt-leb (entry_of es x) full l))
+    visit_above l = visit_searched (rw (ne_eqb found.code 0 none, ← full_is, lt-leb (entry_of es x) full l))
 
     -- any other is passed
     pub visit_none : entry_of es x ≤ full → Pass ≡ visit h n (mem rs es) row o x
-    visit_none l = visit_searched (rw (ne_eqb found.code 0 none, ← Full_is, le-leb (entry_of es x) full l))
+    visit_none l = visit_searched (rw (ne_eqb found.code 0 none, ← full_is, le-leb (entry_of es x) full l))
 
 -- ---- what a visit that answers a block found
 

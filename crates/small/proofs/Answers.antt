@@ -64,14 +64,14 @@ module _ (h : ℕ) (rs es : List ℕ) (f o : ℕ) {x : ℕ} (x_is : x ≡ f / 2 
             let d = if_turned rs f o false turn z in
             rw (lowered, d.1, d.0, ← x_is, ne_eqb (entry_of es x) mark counted, ← s_is, le-leb s (entry_of es x) enough)
 
-        module _ {full : ℕ} (Full_is : full ≡ 2 ^ h) where
+        module _ {full : ℕ} (full_is : full ≡ 2 ^ h) where
           -- where it was left, and the count is above that of a huge frame, a get is refused with 8
           pub get_damaged : {r : ℕ} {left : List ℕ} → out r left ≡ toggled rs f o false → (r ≡ 0 → ⊥) → full < entry_of es x
               → out (got 8 0 1) (mem left es) ≡ get_small_at h (mem rs es) f o
           unfolding get_small_at
           get_damaged turn n l =
               let d = if_left rs f o false turn n in
-              rw (d.1, d.0, ← x_is, ne_eqb (entry_of es x) mark counted, ← s_is, le-leb s (entry_of es x) enough, ← Full_is, lt-leb (entry_of es x) full l)
+              rw (d.1, d.0, ← x_is, ne_eqb (entry_of es x) mark counted, ← s_is, le-leb s (entry_of es x) enough, ← full_is, lt-leb (entry_of es x) full l)
 
           -- where it was left, and the count is not, with 7
           pub get_held : {r : ℕ} {left : List ℕ} → out r left ≡ toggled rs f o false → (r ≡ 0 → ⊥) → entry_of es x ≤ full
@@ -79,24 +79,24 @@ module _ (h : ℕ) (rs es : List ℕ) (f o : ℕ) {x : ℕ} (x_is : x ≡ f / 2 
           unfolding get_small_at
           get_held turn n l =
               let d = if_left rs f o false turn n in
-              rw (d.1, d.0, ← x_is, ne_eqb (entry_of es x) mark counted, ← s_is, le-leb s (entry_of es x) enough, ← Full_is, le-leb (entry_of es x) full l)
+              rw (d.1, d.0, ← x_is, ne_eqb (entry_of es x) mark counted, ← s_is, le-leb s (entry_of es x) enough, ← full_is, le-leb (entry_of es x) full l)
 
           -- where the huge frame is free whole, so is the block
           pub free_whole : entry_of es x ≡ full → true ≡ is_free_small h (mem rs es) f o
           unfolding is_free_small
-          free_whole e = rw (← x_is, ne_eqb (entry_of es x) mark counted, ← s_is, le-leb s (entry_of es x) enough, ← Full_is, eq-eqb (entry_of es x) full e)
+          free_whole e = rw (← x_is, ne_eqb (entry_of es x) mark counted, ← s_is, le-leb s (entry_of es x) enough, ← full_is, eq-eqb (entry_of es x) full e)
 
           -- else its bits tell
           pub free_block : {r : Bool} → (entry_of es x ≡ full → ⊥) → r ≡ block_is false rs f (2 ^ o) → r ≡ is_free_small h (mem rs es) f o
           unfolding is_free_small
-          free_block n e = rw (← e, ← x_is, ne_eqb (entry_of es x) mark counted, ← s_is, le-leb s (entry_of es x) enough, ← Full_is, ne_eqb (entry_of es x) full n)
+          free_block n e = rw (← e, ← x_is, ne_eqb (entry_of es x) mark counted, ← s_is, le-leb s (entry_of es x) enough, ← full_is, ne_eqb (entry_of es x) full n)
 
   -- ---- a put into a count
-  module _ {s full : ℕ} (s_is : s ≡ 2 ^ o) (Full_is : full ≡ 2 ^ h) where
+  module _ {s full : ℕ} (s_is : s ≡ 2 ^ o) (full_is : full ≡ 2 ^ h) where
     -- without room for the block it is refused with 7
     pub put_over : full - s < entry_of es x → out 7 (mem rs es) ≡ put_counted h (mem rs es) f o
     unfolding put_counted
-    put_over l = rw (← x_is, ← s_is, ← Full_is, lt-leb (entry_of es x) (full - s) l)
+    put_over l = rw (← x_is, ← s_is, ← full_is, lt-leb (entry_of es x) (full - s) l)
 
     -- that has room for the block
     module _ (room : entry_of es x ≤ full - s) {r : ℕ} {left : List ℕ} (turn : out r left ≡ toggled rs f o true) where
@@ -105,14 +105,14 @@ module _ (h : ℕ) (rs es : List ℕ) (f o : ℕ) {x : ℕ} (x_is : x ≡ f / 2 
       unfolding put_counted
       put_done z raised =
           let d = if_turned rs f o true turn z in
-          rw (raised, d.1, d.0, ← x_is, ← s_is, ← Full_is, le-leb (entry_of es x) (full - s) room)
+          rw (raised, d.1, d.0, ← x_is, ← s_is, ← full_is, le-leb (entry_of es x) (full - s) room)
 
       -- where it was left, it is refused with 7
       pub put_free : (r ≡ 0 → ⊥) → out 7 (mem left es) ≡ put_counted h (mem rs es) f o
       unfolding put_counted
       put_free n =
           let d = if_left rs f o true turn n in
-          rw (d.1, d.0, ← x_is, ← s_is, ← Full_is, le-leb (entry_of es x) (full - s) room)
+          rw (d.1, d.0, ← x_is, ← s_is, ← full_is, le-leb (entry_of es x) (full - s) room)
 
   -- ---- a put into a mark: the whole huge frame, from its first frame g on, was to be set
   module _ {g : ℕ} (g_is : g ≡ f / 2 ^ h * 2 ^ h) {r : ℕ} {left : List ℕ} (turn : out r left ≡ toggled rs g h false) where
