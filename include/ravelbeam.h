@@ -27,10 +27,10 @@
  *     and results lie apart from each other, and nobody else writes them during the call.
  *   - The caller gives the same N and T to all calls on a state: nothing is kept between calls.
  *
- * The archive to link, libravelbeam.a, is made in the repository: by tools/native for programs on the
- * machine at hand, by tools/archive for those on x86-64, by tools/kernel for kernels on x86-64, aarch64
- * and riscv64. The first two use vector registers and may use the red zone; those for kernels use
- * neither. None calls anything but memcpy and memset. All are for 64-bit targets. */
+ * The archive to link, libravelbeam.a, is made in the repository: by tools/native for programs on
+ * x86-64, by tools/native aarch64 and tools/native riscv64 for those on Linux there, by tools/kernel
+ * for kernels on all three. Those for programs may use vector registers and the red zone; those for
+ * kernels use neither. None calls anything but memcpy and memset. All are for 64-bit targets. */
 
 #ifndef RAVELBEAM_H
 #define RAVELBEAM_H
