@@ -10,7 +10,7 @@ use native.Mathlib.Omega.{arith}
 use lib.Dec.{eqb}
 use lib.ListN.{length, get_or}
 use borrow.Author.Tests.{eq-eqb, ne_eqb, eqb-true, leb-true}
-use Rattle.base.specs.Walk.{pick, count}
+use Rattle.base.specs.Walk.{pick}
 use Rattle.base.specs.Bits.{bit_is, block_is}
 use Rattle.base.specs.Code.{Out, out, unless}
 use Rattle.base.specs.Size.{Huge, rows_per}

@@ -1,9 +1,8 @@
 -- One law for each answer of a tool that tells a reason: refused, a tree that is not consistent, or the reason. Assumes nothing.
 use mathlib.Core.Path.{◌≡◌, sym, ◌∙◌}
-use mathlib.Core.Bool.{Bool, true, false, not}
+use mathlib.Core.Bool.{Bool, true, false}
 use Prim.Native.Nat.{ℕ}
 use native.Mathlib.Omega.{arith}
-use borrow.Author.Tests.{not-true, not-false}
 use Rattle.base.specs.Size.{Huge}
 use Rattle.base.proofs.Codes.{stops, passes, no_code, its_code, refused, answered}
 use Rattle.rules.specs.declared.Why.{Why}

@@ -1,5 +1,4 @@
 -- `stats::at_frame` meets its contract: a frame is free where its bit is clear and its huge frame counts one. Assumes nothing.
-use mathlib.Core.Logic.{⊎_elim}
 use lib.Dec.{ltb}
 use borrow.Author.Rules.{rules}
 use borrow.Author.Tests.{lt-ltb, le-ltb}

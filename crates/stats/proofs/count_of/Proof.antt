@@ -1,5 +1,4 @@
 -- `stats::count_of` meets its contract. The loop's invariant: the sum counts the entries below x. Assumes nothing.
-use mathlib.Core.Logic.{⊎_elim}
 use Prim.Native.Nat.{◌-◌}
 use lib.Dec.{eqb}
 use borrow.Author.Rules.{rules}

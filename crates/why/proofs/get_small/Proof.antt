@@ -1,5 +1,4 @@
 -- `why::get_small` meets its contract. The loop's invariant: the reason is that of the i entries passed, and none of them has a block. Assumes nothing.
-use mathlib.Core.Logic.{⊎_elim}
 use Prim.Native.Nat.{◌+◌, ◌-◌}
 use native.Mathlib.Omega.{arith}
 use lib.Pow.{pow_pos}
