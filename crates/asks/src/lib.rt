@@ -10,7 +10,7 @@ ghost use Rattle.asks.specs.Turn as spec;
 use lines::{Answer, Question};
 
 // What a line leaves beside the memory: N, T, and the answer that it prints.
-#[derive(Drop)]
+#[derive(Clone, Copy)]
 pub struct Turn {
     pub n: usize,
     pub t: usize,

@@ -2,21 +2,21 @@
 #![tactic(auto)]
 
 // The answer of a search: document 01's number, and the place where it is 0.
-#[derive(Drop)]
+#[derive(Clone, Copy)]
 pub struct Placed {
     pub code: u32,
     pub place: usize,
 }
 
 // The answer of a count.
-#[derive(Drop)]
+#[derive(Clone, Copy)]
 pub struct ZeroCount {
     pub code: u32,
     pub zeros: usize,
 }
 
 // The answer of a question.
-#[derive(Drop)]
+#[derive(Clone, Copy)]
 pub struct Answered {
     pub code: u32,
     pub yes: bool,

@@ -23,7 +23,7 @@ pub const KEPT_MAX: usize = 65;
 pub const ANSWER_MAX: usize = 84;
 
 // N and T of the last start that was done, and how many bytes are kept of a line that has not ended.
-#[derive(Drop)]
+#[derive(Clone, Copy)]
 pub struct State {
     pub n: usize,
     pub t: usize,
@@ -31,14 +31,14 @@ pub struct State {
 }
 
 // The answer of a line, if one has ended.
-#[derive(Drop)]
+#[derive(Clone, Copy)]
 pub enum Reply {
     Nothing,
     One(Answer),
 }
 
 // What a part of the input leaves: the state, how many of its bytes were used, and an answer.
-#[derive(Drop)]
+#[derive(Clone, Copy)]
 pub struct Fed {
     pub state: State,
     pub used: usize,
@@ -46,7 +46,7 @@ pub struct Fed {
 }
 
 // The same with all answers that fitted in a text: where they end in it.
-#[derive(Drop)]
+#[derive(Clone, Copy)]
 pub struct Served {
     pub state: State,
     pub used: usize,
@@ -205,7 +205,7 @@ pub fn serve(
     let mut now = state;
     let mut used = 0;
     let mut end = 0;
-    while goes_on(used, input.len(), end, text.len()) {
+    'lines: while goes_on(used, input.len(), end, text.len()) {
         let fed = feed(now, &input[used..], line, rows, entries);
         let after = fed.state;
         let reply = fed.reply;

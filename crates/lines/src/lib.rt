@@ -16,7 +16,7 @@ const LINE_MAX: usize = 64;
 const SHORT_TREE: usize = 4;
 
 // A call that may write: G, P, F and R.
-#[derive(Drop)]
+#[derive(Clone, Copy)]
 pub enum Change {
     Get(usize, usize),
     GetAt(usize, usize),
@@ -25,7 +25,7 @@ pub enum Change {
 }
 
 // A call that only reads: Q, S, T and A.
-#[derive(Drop)]
+#[derive(Clone, Copy)]
 pub enum Question {
     IsFree(usize, usize),
     StatsOfAll,
@@ -34,7 +34,7 @@ pub enum Question {
 }
 
 // What a line asks for: a start, I, of N frames in trees of T; one of the other calls; or nothing, where it is bad.
-#[derive(Drop)]
+#[derive(Clone, Copy)]
 pub enum Line {
     Starts(usize, usize, Init),
     Changes(Change),
@@ -43,7 +43,7 @@ pub enum Line {
 }
 
 // An answer: a code, and as many numbers beside it as fields says.
-#[derive(Drop)]
+#[derive(Clone, Copy)]
 pub struct Answer {
     pub code: u32,
     pub fields: usize,

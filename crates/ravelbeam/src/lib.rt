@@ -1,5 +1,5 @@
 // The calls for programs in C and Rust: numbers and slices alone, further results through lent numbers, which every call
-// writes. Each has its call's own contract, or one of specs/Contracts where its numbers are others.
+// writes. Each has its call's own contract, or one of specs/Ensured where its numbers are others.
 #![tactic(auto)]
 
 ghost use Rattle.base.specs.Size.{huge_order};

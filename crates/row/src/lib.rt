@@ -6,7 +6,7 @@ ghost use Rattle.row.specs.Row.{lowest, units};
 ghost use Rattle.row.specs.Ensured.{FindsInRow};
 
 // The answer of a search in one row.
-#[derive(Drop)]
+#[derive(Clone, Copy)]
 pub enum Found {
     // The place of the block, and the row with the block's bits set.
     At(usize, u64),

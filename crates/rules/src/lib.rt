@@ -3,7 +3,7 @@
 #![tactic(auto)]
 
 // What a get answers: document 01's number, the frame where it is 0, and the entries or groups visited.
-#[derive(Drop)]
+#[derive(Clone, Copy)]
 pub struct Got {
     pub code: u32,
     pub frame: usize,
@@ -11,7 +11,7 @@ pub struct Got {
 }
 
 // What a get makes of one entry.
-#[derive(Drop)]
+#[derive(Clone, Copy)]
 pub enum Visit {
     // It goes on to the next.
     Pass,
@@ -22,7 +22,7 @@ pub enum Visit {
 }
 
 // Free frames, huge frames that are free whole, and trees that are, with document 01's number.
-#[derive(Drop)]
+#[derive(Clone, Copy)]
 pub struct Stats {
     pub code: u32,
     pub free_frames: usize,
@@ -31,14 +31,14 @@ pub struct Stats {
 }
 
 // How a start leaves the frames below N.
-#[derive(Drop)]
+#[derive(Clone, Copy)]
 pub enum Init {
     FreeAll,
     AllocAll,
 }
 
 // The first faulty huge frame and document 01's reason, with its number; all 0 where nothing is wrong.
-#[derive(Drop)]
+#[derive(Clone, Copy)]
 pub struct Fault {
     pub code: u32,
     pub huge: usize,
@@ -46,7 +46,7 @@ pub struct Fault {
 }
 
 // What recover answers: document 01's number, and how many entries and bitfields it changed.
-#[derive(Drop)]
+#[derive(Clone, Copy)]
 pub struct Recovered {
     pub code: u32,
     pub entries: usize,
@@ -54,14 +54,14 @@ pub struct Recovered {
 }
 
 // The room of a tree: the blocks of each order, 0 to 18, that its entries promise.
-#[derive(Drop)]
+#[derive(Clone, Copy)]
 pub struct Rooms {
     pub code: u32,
     pub counts: [usize; 19],
 }
 
 // Why a get or a put is turned down: document 01's number of the question itself, document 02's reason, and the frame beside it.
-#[derive(Drop)]
+#[derive(Clone, Copy)]
 pub struct Why {
     pub code: u32,
     pub reason: u32,

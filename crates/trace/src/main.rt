@@ -31,7 +31,7 @@ impl fmt::Display for Failure {
 }
 
 // What a part of the input leaves, and whether answers to it could not be written.
-#[derive(Drop)]
+#[derive(Clone, Copy)]
 struct Passed {
     state: State,
     lost: bool,
