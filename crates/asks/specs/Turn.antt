@@ -1,18 +1,18 @@
 -- Document 01, "Lines to check": the call that a line makes, and its answer as it is printed.
-use Rattle.std.specs.Prelude.{ℕ, eqb}
+use Rattle.std.specs.Prelude.{Option, Some, None, ℕ, eqb}
 use Rattle.base.specs.Walk.{pick}
 use Rattle.base.specs.Code.{Out, out}
-use Rattle.rules.specs.declared.Got.{Got}
-use Rattle.rules.specs.declared.Stats.{Stats}
+use Rattle.rules.specs.Numbered.{Got}
+use Rattle.rules.specs.Numbered.{Stats}
 use Rattle.rules.specs.State.{Mem}
-use Rattle.bitfield_rules.specs.declared.Answered.{Answered}
+use Rattle.bitfield_rules.specs.Calls.{Answered}
 use Rattle.rules.specs.Calls as calls
-use Rattle.rules.specs.declared.Fault.{Fault}
-use Rattle.rules.specs.declared.Recovered.{Recovered}
+use Rattle.rules.specs.Numbered.{Fault}
+use Rattle.rules.specs.Numbered.{Recovered}
 use Rattle.rules.specs.declared.Init.{Init}
 use Rattle.rules.specs.declared.Init.TheVariants.{FreeAll, AllocAll}
 use Rattle.lines.specs.declared.Line.{Line}
-use Rattle.lines.specs.declared.Line.TheVariants.{Starts, Changes, Asks, Bad}
+use Rattle.lines.specs.declared.Line.TheVariants.{Starts, Changes, Asks}
 use Rattle.lines.specs.declared.Change.{Change}
 use Rattle.lines.specs.declared.Change.TheVariants.{Get, GetAt, Put, Recover}
 use Rattle.lines.specs.declared.Question.{Question}
@@ -77,9 +77,9 @@ unfolding filled
 started h n t m frames tree init = let o = filled h frames tree init m in begun (turn n t (of_code o.answer)) (turn frames tree (of_code 0)) o
 
 -- every line but a start keeps N and T; "a bad line prints 9 alone"
-unfoldable pub answered : ℕ → ℕ → ℕ → Mem → Line → Out Turn Mem
+unfoldable pub answered : ℕ → ℕ → ℕ → Mem → Option Line → Out Turn Mem
 unfolding asked changed started
-answered h n t m (Starts frames tree init) = started h n t m frames tree init
-answered h n t m (Changes c) = out (turn n t (changed h n t m c).answer) (changed h n t m c).left
-answered h n t m (Asks q) = out (turn n t (asked h n t m q)) m
-answered h n t m Bad = out (turn n t (of_code 9)) m
+answered h n t m (Some (Starts frames tree init)) = started h n t m frames tree init
+answered h n t m (Some (Changes c)) = out (turn n t (changed h n t m c).answer) (changed h n t m c).left
+answered h n t m (Some (Asks q)) = out (turn n t (asked h n t m q)) m
+answered h n t m None = out (turn n t (of_code 9)) m

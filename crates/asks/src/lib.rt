@@ -1,13 +1,17 @@
-// The answers of `trace` as it prints them, and the calls that only read: those of the lines Q, S, T and A.
+// The calls of `trace` that only read, those of the lines Q, S, T and A, and their answers as it prints them. There is no `From`, as
+// neither a `Result` nor `Answer` belongs to this crate; each kind of answer prints other numbers.
 #![tactic(auto)]
 
 ghost use Rattle.std.specs.Prelude.{◌≡◌};
 ghost use Rattle.base.specs.Size.{huge_order};
+ghost use Rattle.bitfield_rules.specs.Calls.{answered_of};
+ghost use Rattle.rules.specs.Answers.{stats_of, fault_of};
 ghost use Rattle.rules.specs.State.{mem};
-ghost use Rattle.lines.specs.Answer.{answer};
 ghost use Rattle.asks.specs.Turn as spec;
 
-use lines::{Answer, Question};
+use answers::{Faulty, Free};
+use base::Refusal;
+use lines::{Answer, Fields, Question};
 
 // What a line leaves beside the memory: N, T, and the answer that it prints.
 #[derive(Clone, Copy)]
@@ -17,74 +21,77 @@ pub struct Turn {
     pub answer: Answer,
 }
 
-// An answer of a code alone.
-pub fn of_code(code: u32) -> Answer
-    ensures { result ≡ spec.of_code code }
+// What a bad line prints: 9 alone.
+pub const BAD: Answer = Answer {
+    code: 9,
+    fields: Fields::Nothing,
+};
+
+// Whether a block is free: 1 or 0.
+fn of_free(free: Result<bool, Refusal>) -> Answer
+    ensures { result ≡ spec.of_free (answered_of free) }
 {
-    Answer {
-        code: code,
-        fields: 0,
-        a: 0,
-        b: 0,
-        c: 0,
+    match free {
+        Ok(yes) => Answer {
+            code: 0,
+            fields: Fields::One(usize::from(yes)),
+        },
+        Err(refusal) => Answer {
+            code: refusal.number(),
+            fields: Fields::One(0),
+        },
     }
 }
 
-// A code and two numbers.
-pub fn of_two(code: u32, a: usize, b: usize) -> Answer
-    ensures { result ≡ answer code 2 a b 0 }
+// The three statistics.
+fn of_stats(stats: Result<Free, Refusal>) -> Answer
+    ensures { result ≡ spec.of_stats (stats_of stats) }
 {
-    Answer {
-        code: code,
-        fields: 2,
-        a: a,
-        b: b,
-        c: 0,
+    match stats {
+        Ok(free) => Answer {
+            code: 0,
+            fields: Fields::Three(free.frames, free.huge, free.trees),
+        },
+        Err(refusal) => Answer {
+            code: refusal.number(),
+            fields: Fields::Three(0, 0, 0),
+        },
     }
 }
 
-pub fn of_stats(stats: rules::Stats) -> Answer
-    ensures { result ≡ spec.of_stats stats }
+// The first faulty huge frame and what is wrong with it, or zeros.
+fn of_fault(fault: Result<Option<Faulty>, Refusal>) -> Answer
+    ensures { result ≡ spec.of_fault (fault_of fault) }
 {
-    Answer {
-        code: stats.code,
-        fields: 3,
-        a: stats.free_frames,
-        b: stats.free_huge,
-        c: stats.free_trees,
-    }
-}
-
-pub fn of_free(free: bitfield_rules::Answered) -> Answer
-    ensures { result ≡ spec.of_free free }
-{
-    let yes = if free.yes { 1 } else { 0 };
-    Answer {
-        code: free.code,
-        fields: 1,
-        a: yes,
-        b: 0,
-        c: 0,
+    match fault {
+        Ok(Some(faulty)) => Answer {
+            code: 0,
+            fields: Fields::Two(faulty.huge, faulty.flaw.number() as usize),
+        },
+        Ok(None) => Answer {
+            code: 0,
+            fields: Fields::Two(0, 0),
+        },
+        Err(refusal) => Answer {
+            code: refusal.number(),
+            fields: Fields::Two(0, 0),
+        },
     }
 }
 
 // Makes a call that only reads.
+#[tactic(auto, unfolding(crate::specs::Turn::asked))]
 pub fn ask(n: usize, t: usize, rows: &[u64], entries: &[u16], question: Question) -> Answer
     ensures { result ≡ spec.asked huge_order n t (mem rows.now entries.now) question }
 {
     match question {
         Question::IsFree(frame, order) => {
-            return of_free(lower::is_free(n, t, rows, entries, frame, order));
+            of_free(lower::is_free(n, t, rows, entries, frame, order))
         }
-        Question::StatsOfAll => {
-            return of_stats(lower::stats(n, t, rows, entries));
-        }
+        Question::StatsOfAll => of_stats(lower::stats(n, t, rows, entries)),
         Question::StatsAt(frame, order) => {
-            return of_stats(lower::stats_at(n, t, rows, entries, frame, order));
+            of_stats(lower::stats_at(n, t, rows, entries, frame, order))
         }
-        Question::Audit => {
-            let fault = staff::audit(n, t, rows, entries);
-            return of_two(fault.code, fault.huge, fault.reason as usize);
-        }
+        Question::Audit => of_fault(staff::audit(n, t, rows, entries)),
     }
 }

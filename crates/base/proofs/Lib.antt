@@ -4,6 +4,7 @@ pub mod Counting
 pub mod Frames
 pub mod Masks
 pub mod Parts
+pub mod Refused
 pub mod Rests
 pub mod Rings
 pub mod Rows

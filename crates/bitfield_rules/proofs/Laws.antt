@@ -19,7 +19,7 @@ use Rattle.base.proofs.Sizes.{rows_frames}
 use Rattle.base.proofs.Writes.{with_rows}
 use Rattle.base.proofs.Frames.{block_each, block_of}
 use Rattle.bits.specs.Block.{Block}
-use Rattle.bitfield_rules.specs.declared.Placed.{Placed}
+use Rattle.bitfield_rules.specs.Calls.{Placed}
 use Rattle.bitfield_rules.specs.Calls.{placed, rows_code, order_code, block_code, visited, distance, passed, first_zeros}
 use Rattle.bitfield_rules.specs.Means.{Each, Within, NoneClear, FirstClear}
 use Rattle.bitfield_rules.proofs.Search.{clear_at}

@@ -18,7 +18,7 @@ use Rattle.base.proofs.Rests.{mod_sum, mod_rows}
 use Rattle.base.proofs.Walks.{first_is, first_never}
 use Rattle.base.proofs.Sizes.{rows_frames, pow_divides, blocks_wrap, kept}
 use Rattle.base.proofs.Rows.{block_row}
-use Rattle.bitfield_rules.specs.declared.Placed.{Placed}
+use Rattle.bitfield_rules.specs.Calls.{Placed}
 use Rattle.bitfield_rules.specs.Calls.{placed, order_code, group_rows, visited, passed, first_zeros, set_first_zeros}
 
 -- whether the place that is visited after j others is clear

@@ -21,7 +21,7 @@ use Rattle.base.proofs.Sizes.{rows_frames}
 use Rattle.base.proofs.Counting.{count_runs}
 use Rattle.base.proofs.Writes.{length_with}
 use Rattle.base.proofs.Frames.{alike, bit_written, bit_kept, block_each, block_of}
-use Rattle.bitfield_rules.specs.declared.Placed.{Placed}
+use Rattle.bitfield_rules.specs.Calls.{Placed}
 use Rattle.bitfield_rules.specs.Calls.{placed, zero_count, answered, rows_code, order_code, block_code, range_code, set, fill, toggle, is_zero, count_zeros, visited, passed, first_zeros, set_first_zeros}
 use Rattle.bitfield_rules.specs.Means.{Each, Checked, NoneClear, FirstClear, Wrote, Stores, BitfieldMeans}
 use Rattle.bitfield_rules.proofs.Laws.{rows_many, within, passes_within, search_found, search_missed}

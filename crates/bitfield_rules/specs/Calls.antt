@@ -1,13 +1,25 @@
 -- The calls on the rows of one huge frame, of huge order h: document 01, "Refusal numbers" and "Get".
-use Rattle.std.specs.Prelude.{Bool, true, false, not, ◌&&◌, List, ℕ, ◌+◌, ◌-◌, ◌*◌, ◌/◌, ◌%◌, ◌^◌, eqb, leb, ltb, length, get_or, replicate}
+use Rattle.std.specs.Prelude.{Result, Ok, Err, Bool, true, false, not, ◌&&◌, List, ℕ, ◌+◌, ◌-◌, ◌*◌, ◌/◌, ◌%◌, ◌^◌, eqb, leb, ltb, length, get_or, replicate}
 use Rattle.base.specs.Walk.{pick, first, all, count}
 use Rattle.base.specs.Ring.{steps_to}
 use Rattle.base.specs.Code.{unless, or_else, Out, out, stored}
+use Rattle.base.specs.declared.Refusal.{Refusal}
+use Rattle.base.specs.Refused.{number_of}
 use Rattle.base.specs.Size.{rows_per}
 use Rattle.base.specs.Bits.{solid, bit_is, block_is, with_bits}
-use Rattle.bitfield_rules.specs.declared.Placed.{Placed}
-use Rattle.bitfield_rules.specs.declared.ZeroCount.{ZeroCount}
-use Rattle.bitfield_rules.specs.declared.Answered.{Answered}
+
+-- the numbers of an answer, its code 0 where the call is done: of a search, a count and a question
+pub record Placed : Type 0 where
+  pub code : ℕ
+  pub place : ℕ
+
+pub record ZeroCount : Type 0 where
+  pub code : ℕ
+  pub zeros : ℕ
+
+pub record Answered : Type 0 where
+  pub code : ℕ
+  pub yes : Bool
 
 abbrev pub placed : ℕ → ℕ → Placed
 placed c p = record { code = c; place = p }
@@ -17,6 +29,19 @@ zero_count c z = record { code = c; zeros = z }
 
 abbrev pub answered : ℕ → Bool → Answered
 answered c y = record { code = c; yes = y }
+
+-- "A refusal returns its number with every other field 0": the numbers of the answers of a search, a count and a question
+abbrev pub placed_of : Result ℕ Refusal → Placed
+placed_of (Ok p) = placed 0 p
+placed_of (Err e) = placed (number_of e) 0
+
+abbrev pub count_of : Result ℕ Refusal → ZeroCount
+count_of (Ok z) = zero_count 0 z
+count_of (Err e) = zero_count (number_of e) 0
+
+abbrev pub answered_of : Result Bool Refusal → Answered
+answered_of (Ok y) = answered 0 y
+answered_of (Err e) = answered (number_of e) false
 
 -- "Refusal numbers": exactly the rows of a huge frame, else 3
 abbrev pub rows_code : ℕ → ℕ → ℕ

@@ -1,9 +1,9 @@
 -- The contract of each call on the rows of one huge frame, of huge order h: its result r and the rows left are those of its definition.
 use Rattle.std.specs.Prelude.{◌≡◌, Bool, List, ℕ}
 use Rattle.base.specs.Code.{out}
-use Rattle.bitfield_rules.specs.declared.Placed.{Placed}
-use Rattle.bitfield_rules.specs.declared.ZeroCount.{ZeroCount}
-use Rattle.bitfield_rules.specs.declared.Answered.{Answered}
+use Rattle.bitfield_rules.specs.Calls.{Placed}
+use Rattle.bitfield_rules.specs.Calls.{ZeroCount}
+use Rattle.bitfield_rules.specs.Calls.{Answered}
 use Rattle.bitfield_rules.specs.Calls.{set, fill, toggle, is_zero, count_zeros, first_zeros, set_first_zeros}
 
 -- set

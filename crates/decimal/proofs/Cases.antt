@@ -1,19 +1,16 @@
 -- The cases of the code: a number or one of the three ways in which there is none, one more digit, and a digit stored. Assumes nothing.
-use mathlib.Core.Path.{◌≡◌, refl, sym, ap, ◌∙◌}
-use mathlib.Core.Bool.{Bool, true, false, ◌&&◌, ◌||◌}
-use mathlib.Core.List.{List, [], ◌∷◌, ◌++◌, append_assoc}
-use mathlib.Core.Logic.{◌⊎◌, ⊎_elim}
-use Prim.Native.Nat.{ℕ, suc, ◌+◌, ◌-◌, ◌*◌, ◌/◌, ◌%◌, ◌^◌, ◌≤◌, ◌<◌}
-use native.Mathlib.Decide.{dec_le}
-use native.Mathlib.Nat.{add-suc}
-use native.Mathlib.Omega.{arith}
-use lib.Dec.{eqb, leb, ltb}
-use lib.ListN.{length, get_or, set, drop}
-use lib.Seq.{take_all, lt-length-set, drop-cons, get_or-set_same, take-set-le, drop-set-lt, paste, paste-zero}
-use borrow.Author.Tests.{lt-ltb, le-ltb, le-leb, lt-leb, eq-eqb, ne_eqb}
+use Rattle.std.proofs.Common.{◌≡◌, refl, sym, ap, ◌∙◌, Bool, true, false, ◌&&◌, ◌||◌, List, [], ◌∷◌, ◌++◌, append_assoc, ◌⊎◌, inl, inr, ℕ, suc, ◌+◌, ◌-◌, ◌*◌, ◌/◌, ◌%◌, ◌^◌, ◌≤◌, ◌<◌, add-zero, add-suc, add-one, arith, eqb, length, get_or, set, take, drop, length-drop, get_or-drop, get_or-take}
+use mathlib.Core.Logic.{⊎_elim}
+use native.Mathlib.Decide.{dec_lt}
+use lib.ListN.{get_or-eq_default}
+use lib.Seq.{take_all, length-take-le, lt-length-set, drop-cons, get_or-set_same, take-set-le, drop-set-lt, paste, paste-zero}
+use borrow.Author.Tests.{lt-ltb, le-ltb, eq-eqb, ne_eqb}
+use Rattle.std.specs.Char.{is_ascii_digit}
+use Rattle.std.specs.List.{prefix_len, slice_range}
+use Rattle.std.proofs.lemmas.List.Sums.{prefix_len_passes, prefix_len_stops, prefix_len-le-length}
 use Rattle.base.specs.Code.{out}
-use Rattle.decimal.specs.Decimal.{digits, places, digits_end, value_at, number, number_at, number_to}
-use Rattle.decimal.proofs.Digits.{Digits, end_beyond, value_next, value_grows, length_digits}
+use Rattle.decimal.specs.Decimal.{digits, places, is_digit, digits_end, value_at, number, number_at, number_to}
+use Rattle.decimal.proofs.Digits.{digit_low, Digits, end_within, end_is, end_beyond, value_next, value_grows, length_digits}
 
 or_true : (x : Bool) → (x || true) ≡ true
 or_true true = refl
@@ -50,7 +47,7 @@ module _ (l : List ℕ) (at e v : ℕ) (e_is : e ≡ digits_end l at) (v_is : v 
   none_large h = rw (← e_is, ← v_is, le-ltb v (2 ^ 64) h, and_false)
 
 -- digits that already say too much, whatever follows
-pub none_beyond : (l : List ℕ) (at i v : ℕ) → at ≤ i → i < length l → Digits l at (i + 1) → v ≡ value_at l at (i - at) → 2 ^ 64 ≤ v * 10 + (get_or l i 0 - 48)
+none_beyond : (l : List ℕ) (at i v : ℕ) → at ≤ i → i < length l → Digits l at (i + 1) → v ≡ value_at l at (i - at) → 2 ^ 64 ≤ v * 10 + (get_or l i 0 - 48)
     → number false 0 0 ≡ number_at l at
 none_beyond l at i v a h d e f =
     let beyond = end_beyond l at (i + 1) (omega arith) d in
@@ -59,20 +56,78 @@ none_beyond l at i v a h d e f =
     let next = value_next l at i a in
     none_large l at (digits_end l at) (value_at l at (digits_end l at - at)) refl refl (omega arith)
 
--- ---- whether one more digit d fits: 2 ^ 64 is 1844674407370955161 * 10 + 6
+-- a place past the line has no digits
+pub none_past : (l : List ℕ) (at : ℕ) → length l < at → number false 0 0 ≡ number_at l at
+none_past l at h = none_here l at (digits_end l at) (value_at l at (digits_end l at - at)) refl refl (omega (arith, end_within l at))
 
-module _ (v d : ℕ) (h : d < 10) where
-  pub fits_below : v < 1844674407370955161 → ltb v 1844674407370955161 ≡ ltb (v * 10 + d) (2 ^ 64)
-  fits_below l = lt-ltb v 1844674407370955161 l ∙ sym (lt-ltb (v * 10 + d) (2 ^ 64) (omega arith))
+-- ---- the digits that the rest of a line begins with
 
-  pub fits_at : v ≡ 1844674407370955161 → leb d 5 ≡ ltb (v * 10 + d) (2 ^ 64)
-  fits_at e = elim (dec_le d 5) [
-    | yes q ↦ le-leb d 5 q ∙ sym (lt-ltb (v * 10 + d) (2 ^ 64) (omega arith))
-    | no q ↦ lt-leb d 5 (omega arith) ∙ sym (le-ltb (v * 10 + d) (2 ^ 64) (omega arith))
+-- the rest of a line from a place on, and how many digits it begins with
+pub record Run (l rest : List ℕ) (at len : ℕ) : Type 0 where
+  pub from : at ≤ length l
+  pub is : rest ≡ slice_range l at (length l)
+  pub many : len ≡ prefix_len is_ascii_digit rest
+
+module _ {l rest : List ℕ} {at len : ℕ} (r : Run l rest at len) where
+  rest_drop : rest ≡ drop at l
+  rest_drop = r.is ∙ take_all (length l - at) (drop at l) (omega (arith, length-drop at l, r.from))
+
+  rest_at : (i : ℕ) → get_or rest i 0 ≡ get_or l (at + i) 0
+  rest_at i = rw (rest_drop, get_or-drop)
+
+  within : at + len ≤ length l
+  within = omega (arith, r.from, r.many, ap length rest_drop, prefix_len-le-length is_ascii_digit rest, length-drop at l)
+
+  -- so many are they
+  pub run_long : length (take len rest) ≡ len
+  run_long = length-take-le len rest (omega (arith, r.many, prefix_len-le-length is_ascii_digit rest))
+
+  run_at : (i : ℕ) → i < len → get_or (take len rest) i 0 ≡ get_or l (at + i) 0
+  run_at i h = rw get_or-take (rest_at i)
+
+  run_digit : (i : ℕ) → i < len → is_digit (get_or l (at + i) 0) ≡ true
+  run_digit i h = ap is_digit (sym (rest_at i)) ∙ prefix_len_passes is_ascii_digit rest i 0 (omega (arith, r.many))
+
+  -- each is at least `0`
+  pub run_low : (i : ℕ) → i < len → 48 ≤ get_or (take len rest) i 0
+  run_low i h = omega (arith, run_at i h, digit_low (get_or l (at + i) 0) (run_digit i h))
+
+  run_digits : (k : ℕ) → k ≤ len → Digits l at (at + k)
+  run_digits k h i b a = let e : at + (i - at) ≡ i = omega arith in rw e at (run_digit (i - at) (omega arith))
+
+  run_stops : is_digit (get_or l (at + len) 0) ≡ false
+  run_stops = elim (dec_lt len (length rest)) [
+    | yes q ↦ ap is_digit (sym (rest_at len) ∙ ap (λ (k : ℕ). get_or rest k 0) r.many) ∙ prefix_len_stops is_ascii_digit rest 0 (omega (arith, r.many))
+    | no q ↦ ap is_digit (get_or-eq_default l 0 (omega (arith, ap length rest_drop, length-drop at l)))
   ]
 
-  pub fits_above : 1844674407370955161 ≤ v → (v ≡ 1844674407370955161 → ⊥) → eqb v 1844674407370955161 ≡ ltb (v * 10 + d) (2 ^ 64)
-  fits_above l n = ne_eqb v 1844674407370955161 n ∙ sym (le-ltb (v * 10 + d) (2 ^ 64) (omega arith))
+  run_ends : at + len ≡ digits_end l at
+  run_ends = sym (end_is l at (at + len) (omega arith) (omega (arith, within)) (run_digits len (omega arith)) run_stops)
+
+  -- there are none, or several of which the first is `0`
+  pub none_read : (len ≡ 0) ⊎ ((1 < len) × (get_or rest 0 0 ≡ 48)) → number false 0 0 ≡ number_at l at
+  none_read s = ⊎_elim
+      (λ z. none_here l at (at + len) (value_at l at (at + len - at)) run_ends refl (omega arith))
+      (λ w. none_zero l at (at + len) (value_at l at (at + len - at)) run_ends refl (omega (arith, w.0)) (rw add-zero at (sym (rest_at 0) ∙ w.1)))
+      s
+
+  -- one is too many
+  pub none_fits : (i : ℕ) → i < len → 2 ^ 64 ≤ value_at l at i * 10 + (get_or (take len rest) i 0 - 48) → number false 0 0 ≡ number_at l at
+  none_fits i h f =
+      let e : at + i - at ≡ i = omega arith in
+      let one : at + (i + 1) ≡ at + i + 1 = omega arith in
+      none_beyond l at (at + i) (value_at l at i) (omega arith) (omega (arith, within)) (rw one at (run_digits (i + 1) (omega arith))) (rw e) (rw run_at at f)
+
+  -- one more
+  pub one_more : (i : ℕ) → i < len → value_at l at (i + 1) ≡ value_at l at i * 10 + (get_or (take len rest) i 0 - 48)
+  unfolding value_at
+  one_more i h = rw (add-one, run_at)
+
+  -- all of them are a number
+  pub all_read : 0 < len → (len ≤ 1) ⊎ (get_or rest 0 0 ≡ 48 → ⊥) → (v : ℕ) → v ≡ value_at l at len → v < 2 ^ 64 → number true v (at + len) ≡ number_at l at
+  all_read h s v v_is f =
+      let e : at + len - at ≡ len = omega arith in
+      number_is l at (at + len) v run_ends (rw e v_is) (omega arith) (⊎_elim (λ q. inl (omega arith)) (λ q. inr (λ z. q (rest_at 0 ∙ rw add-zero z))) s) f
 
 -- ---- what is stored
 

@@ -2,15 +2,15 @@
 use mathlib.Core.Path.{◌≡◌, refl, sym, ap, ◌∙◌}
 use mathlib.Core.Bool.{true, false, not, true≢false}
 use mathlib.Core.List.{List, [], ◌∷◌}
-use Prim.Native.Nat.{ℕ, zero, suc, ◌+◌, ◌-◌, ◌*◌, ◌/◌, ◌%◌, ◌^◌, ◌≤◌, ◌<◌}
+use Prim.Native.Nat.{ℕ, zero, suc, ◌+◌, ◌-◌, ◌*◌, ◌/◌, ◌%◌, ◌^◌, ◌≤◌, ◌<◌, max}
 use native.Mathlib.Decide.{dec_le, dec_lt}
-use native.Mathlib.Nat.{pow-suc, pow-le-pow_right, one-le-pow, add-zero, add-suc, sub_self, le-div_iff_mul-le, lt-div-mul-add, div-div-eq-div-mul, one-mul}
+use native.Mathlib.Nat.{pow-suc, pow-le-pow_right, add-zero, add-suc}
 use native.Mathlib.Omega.{arith}
 use native.Mathlib.Numerals.{add-one}
 use lib.Dec.{leb, ltb}
 use lib.ListN.{length, get_or, take, drop, length-append, length-drop, get_or-append, get_or-eq_default}
 use lib.Seq.{take-suc, get_or_at, get_or-drop}
-use borrow.Author.Tests.{leb-true, le-leb, lt-leb, lt-ltb, le-ltb, ltb-true, ltb-false, not-true, not-false}
+use borrow.Author.Tests.{leb-true, le-leb, lt-ltb, le-ltb, ltb-true, ltb-false, not-true, not-false}
 use Rattle.base.proofs.Walks.{first_hit, first_le, first_from, first_before, first_is, first_never}
 use Rattle.base.proofs.Tests.{both}
 use Rattle.decimal.specs.Decimal.{digits, places, is_digit, digits_end, value_at}
@@ -21,15 +21,8 @@ digit_low c e = leb-true 48 c (both (leb 48 c) (leb c 57) e).0
 pub digit_high : (c : ℕ) → is_digit c ≡ true → c ≤ 57
 digit_high c e = leb-true c 57 (both (leb 48 c) (leb c 57) e).1
 
--- a byte from `0` on is a digit if it is at most `9`, and one before `0` is none
-pub digit_from : (c : ℕ) → 48 ≤ c → leb c 57 ≡ is_digit c
-digit_from c l = rw (le-leb 48 c l)
-
-pub digit_before : (c : ℕ) → c < 48 → leb 48 c ≡ is_digit c
-digit_before c h = rw (lt-leb 48 c h)
-
 pub is_digit_lem : (c : ℕ) → 48 ≤ c → c ≤ 57 → is_digit c ≡ true
-is_digit_lem c l h = sym (digit_from c l) ∙ le-leb c 57 h
+is_digit_lem c l h = rw (le-leb 48 c l, le-leb c 57 h)
 
 -- ---- where digits end
 
@@ -77,10 +70,6 @@ module _ (l : List ℕ) (at : ℕ) where
 -- ---- what digits say
 
 module _ (l : List ℕ) (at : ℕ) where
-  pub value_none : value_at l at (at - at) ≡ 0
-  unfolding value_at
-  value_none = rw sub_self
-
   -- the digit at i, after those before it
   pub value_next : (i : ℕ) → at ≤ i → value_at l at (i + 1 - at) ≡ value_at l at (i - at) * 10 + (get_or l i 0 - 48)
   unfolding value_at
@@ -190,24 +179,12 @@ places_are n k l h e f = elim (dec_lt k 20) [
   | no q ↦ first_never _ 19 1 (λ j a b. le-ltb n (10 ^ j) (f j (omega arith) a)) ∙ omega arith
 ]
 
--- a power of ten that is below 2 ^ 64 is at most the nineteenth
-pub power_low : (n k : ℕ) → n < 2 ^ 64 → 10 ^ k ≤ n → k < 20
-power_low n k h l = elim (dec_lt k 20) [ yes q ↦ q | no q ↦ absurd (omega (arith, pow-le-pow_right {n = 10} (omega arith) {i = 20} {j = k} (omega arith))) ]
-
--- ---- a number without its last k digits
-
-pub without_more : (n k rest : ℕ) → rest ≡ n / 10 ^ k → rest / 10 ≡ n / 10 ^ (k + 1)
-without_more n k rest e = rw (e, add-one) (div-div-eq-div-mul n (10 ^ k) 10 ∙ ap (λ (x : ℕ). n / x) (sym (pow-suc 10 k)))
-
--- where something is left, k digits are not enough
-pub something_left : (n k rest : ℕ) → rest ≡ n / 10 ^ k → 0 < rest → 10 ^ k ≤ n
-something_left n k rest e h =
-    let l = (le-div_iff_mul-le {k = 10 ^ k} {x = 1} {y = n} (one-le-pow k 10 (omega arith))).0 (rw e at h) in
-    rw one-mul at l
-
--- where nothing is, they are
-pub nothing_left : (n k rest : ℕ) → rest ≡ n / 10 ^ k → rest ≡ 0 → n < 10 ^ k
-nothing_left n k rest e z =
-    let none : n / 10 ^ k ≡ 0 = sym e ∙ z in
-    let l = rw none at (lt-div-mul-add {a = n} {b = 10 ^ k} (one-le-pow k 10 (omega arith))) in
-    omega arith
+-- one more than the logarithm, of 1 where the number is 0
+pub places_log : (n m k : ℕ) → m ≡ max n 1 → 10 ^ k ≤ m → m < 10 * 10 ^ k → k < 20 → k + 1 ≡ places n
+places_log n m k e l h b = sym (places_are n (k + 1) (omega arith) (omega arith) (rw (add-one, pow-suc) (omega arith)) fewer)
+  where
+    fewer : (j : ℕ) → j < k + 1 → 1 ≤ j → 10 ^ j ≤ n
+    fewer j a o =
+        let up : 10 ^ j ≤ 10 ^ k = pow-le-pow_right {n = 10} (omega arith) {i = j} {j = k} (omega arith) in
+        let ten : 10 ^ 1 ≤ 10 ^ j = pow-le-pow_right {n = 10} (omega arith) {i = 1} {j = j} (omega arith) in
+        omega arith

@@ -1,6 +1,6 @@
 -- For callers: the text of a number, that what is written is read, and that what was read is what is written. Assumes nothing.
 use mathlib.Core.Path.{◌≡◌, refl, sym, ap, ◌∙◌, subst₂}
-use mathlib.Core.Bool.{Bool, true, false, not, ◌||◌, true≢false}
+use mathlib.Core.Bool.{Bool, true, false, not, ◌||◌}
 use mathlib.Core.List.{List, ◌++◌}
 use mathlib.Core.Logic.{◌⊎◌, inl, inr, ⊎_elim}
 use Prim.Native.Nat.{ℕ, zero, suc, ◌+◌, ◌-◌, ◌^◌, ◌≤◌, ◌<◌}
@@ -11,6 +11,7 @@ use lib.Dec.{eqb, ltb}
 use lib.ListN.{length, get_or, take, drop, length-append, get_or-append}
 use lib.Seq.{get_or-append-add}
 use borrow.Author.Tests.{ltb-true, eqb-true, eqb-false, not-true}
+use Rattle.std.proofs.lemmas.Option.{same_Some}
 use Rattle.base.specs.Walk.{pick}
 use Rattle.base.proofs.Tests.{both}
 use Rattle.decimal.specs.declared.Number.{Number}
@@ -153,5 +154,7 @@ unfolding number_at
 written_read l at n e q = go (is_number l at (digits_end l at)) refl q
   where
     go : (b : Bool) → is_number l at (end l at) ≡ b → pick b (number true (value l at) (end l at)) (number false 0 0) ≡ number true n e → Read l at n e
-    go true t q = subst₂ (Read l at) (ap (λ (x : Number). x.value) q) (ap (λ (x : Number). x.next) q) (is_read l at t)
-    go false t q = absurd (true≢false (sym (ap (λ (x : Number). x.good) q)))
+    go true t q =
+        let same = same_Some _ _ q in
+        subst₂ (Read l at) (ap (λ (x : Number). x.value) same) (ap (λ (x : Number). x.next) same) (is_read l at t)
+    go false t q = cc

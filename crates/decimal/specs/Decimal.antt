@@ -1,5 +1,5 @@
 -- Document 01, "Lines to check": "decimal fields, no leading zeros, below 2^64".
-use Rattle.std.specs.Prelude.{Bool, true, false, not, ◌&&◌, ◌||◌, List, [], ◌∷◌, ◌++◌, ℕ, zero, suc, ◌+◌, ◌-◌, ◌*◌, ◌/◌, ◌%◌, ◌^◌, eqb, leb, ltb, length, get_or}
+use Rattle.std.specs.Prelude.{Bool, true, false, not, ◌&&◌, ◌||◌, Option, Some, None, List, [], ◌∷◌, ◌++◌, ℕ, zero, suc, ◌+◌, ◌-◌, ◌*◌, ◌/◌, ◌%◌, ◌^◌, eqb, leb, ltb, length, get_or}
 use Rattle.std.proofs.Math.Seq.{paste}
 use Rattle.base.specs.Walk.{pick, first}
 use Rattle.base.specs.Code.{Out, out}
@@ -32,15 +32,17 @@ unfoldable pub value_at : List ℕ → ℕ → ℕ → ℕ
 value_at l at zero = 0
 value_at l at (suc k) = value_at l at k * 10 + (get_or l (at + k) 0 - 48)
 
-abbrev pub number : Bool → ℕ → ℕ → Number
-number g v e = record { good = g; value = v; next = e }
+-- what is read: a number and where its text ends (true), or none
+abbrev pub number : Bool → ℕ → ℕ → Option Number
+number true v e = Some (record { value = v; next = e })
+number false v e = None
 
 -- whether the digits from at up to e are a number: there are some, the first of several is no `0`, and it is below 2^64
 abbrev pub is_number : List ℕ → ℕ → ℕ → Bool
 is_number l at e = ltb at e && (eqb e (at + 1) || not (eqb (get_or l at 0) 48)) && ltb (value_at l at (e - at)) (2 ^ 64)
 
--- the number whose digits begin at a place of a line; zeros where there is none
-unfoldable pub number_at : List ℕ → ℕ → Number
+-- the number whose digits begin at a place of a line
+unfoldable pub number_at : List ℕ → ℕ → Option Number
 unfolding digits_end value_at
 number_at l at = pick (is_number l at (digits_end l at)) (number true (value_at l at (digits_end l at - at)) (digits_end l at)) (number false 0 0)
 

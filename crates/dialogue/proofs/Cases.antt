@@ -1,15 +1,13 @@
 -- What the code leaves: a law for each way out of it. Assumes nothing.
+use Rattle.std.specs.Prelude.{Option, Some, None}
 use mathlib.Core.Path.{◌≡◌, refl, sym, ap, ap₂, ◌∙◌}
-use mathlib.Core.Bool.{Bool, true, false, ◌&&◌}
-use mathlib.Core.Logic.{◌⊎◌, inl, inr, ⊎_elim}
+use mathlib.Core.Logic.{⊎_elim}
 use mathlib.Core.List.{List, [], ◌∷◌, ◌++◌, append-nil}
 use Prim.Native.Nat.{ℕ, ◌+◌, ◌-◌, ◌≤◌, ◌<◌, min}
 use native.Mathlib.Decide.{dec_le, dec_lt}
 use native.Mathlib.Omega.{arith}
-use lib.Dec.{leb, ltb}
-use lib.ListN.{length, take, drop, length-drop}
-use lib.Seq.{take_all, take_at, take-add, take-append-add, length-take-le}
-use borrow.Author.Tests.{lt-ltb, leb-false}
+use lib.ListN.{length, take, drop, length-drop, take-append-drop}
+use lib.Seq.{take_all, take-length, take_at, take-add, take-append-add, length-take-le}
 use Rattle.base.specs.Code.{Out, out}
 use Rattle.base.specs.Size.{huge_order}
 use Rattle.dialogue.specs.Bytes.{index_of}
@@ -22,8 +20,6 @@ use Rattle.lines.proofs.Laws.{answer_short}
 use Rattle.lines.proofs.Pastes.{text_behind, text_ends}
 use Rattle.asks.specs.declared.Turn.{Turn}
 use Rattle.asks.specs.Turn.{answered}
-use Rattle.dialogue.specs.declared.Reply.{Reply}
-use Rattle.dialogue.specs.declared.Reply.TheVariants.{Nothing, One}
 use Rattle.dialogue.specs.declared.Fed.{Fed}
 use Rattle.dialogue.specs.declared.Served.{Served}
 use Rattle.dialogue.specs.Dialogue.{Dialogue, dialogue, taken, ended, fed, printed}
@@ -61,31 +57,30 @@ module _ (n t : ℕ) (m : Mem) (l l' input : List ℕ) (e : ℕ) (short : length
   feed_kept =
       rw l'_is (sym (fed_unended n t m l (take e input) short (rw e_is (find_unended input))))
 
-  pub feed_ended : e ≤ length input → (e ≡ length input → ⊥) → {turn : Turn} {m' : Mem} → out turn m' ≡ answered huge_order n t m (read_line l')
+  pub feed_ended : e < length input → {turn : Turn} {m' : Mem} → out turn m' ≡ answered huge_order n t m (read_line l')
       → out (turn.answer ∷ []) (dialogue turn.n turn.t m' []) ≡ fed (dialogue n t m l) (take (e + 1) input)
   unfolding fed ended
-  feed_ended h more made =
+  feed_ended h made =
       let cut : take (e + 1) input ≡ take e input ++ (LF ∷ []) = rw e_is (find_ends input (omega arith)) in
       ap (λ (o : Out Turn Mem). out ((taken o).answer ∷ []) (taken o).left) made
       ∙ sym (rw cut (fed_parts (dialogue n t m l) (take e input) (LF ∷ []) ∙ ap (λ (o : Out (List Answer) Dialogue). fed_on o (LF ∷ [])) (sym feed_kept)))
 
--- ---- what is printed
+-- no line ends in all of the input
+pub feed_whole : (n t : ℕ) (m : Mem) (l l' input : List ℕ) → length l ≤ 65 → index_of LF input ≡ length input → l' ≡ take 65 (l ++ input)
+    → out [] (dialogue n t m l') ≡ fed (dialogue n t m l) (take (length input) input)
+feed_whole n t m l l' input short none l'_is =
+    feed_kept n t m l l' input (length input) short (sym none) (l'_is ∙ ap (λ (x : List ℕ). take 65 (l ++ x)) (sym (take-length input)))
 
-pub one_said : {a : Answer} → One a ≡ Nothing → ⊥
-one_said e = let z : ◌≡◌ {A = ℕ} 0 1 = cc in omega arith
+-- ---- what is printed
 
 pub one_printed : (l : List ℕ) (at : ℕ) (a : Answer) → answer_to l at a ≡ text_to l at (printed (a ∷ []))
 unfolding answer_to printed
 one_printed l at a = ap (text_to l at) (sym (append-nil (answer_text a)))
 
-reply_short : (r : Reply) → length (printed (replied r)) ≤ 84
+reply_short : (r : Option Answer) → length (printed (replied r)) ≤ 84
 unfolding printed
-reply_short Nothing = omega arith
-reply_short (One a) = rw (append-nil (answer_text a)) (answer_short a)
-
--- where what is printed ends
-pub print_ends : (l : List ℕ) (at : ℕ) (r : Reply) {e : ℕ} {l' : List ℕ} → out e l' ≡ text_to l at (printed (replied r)) → e ≤ at + 84
-print_ends l at r p = omega (arith, text_ends l (printed (replied r)) at p, reply_short r)
+reply_short None = omega arith
+reply_short (Some a) = rw (append-nil (answer_text a)) (answer_short a)
 
 none_printed : length (printed []) ≡ 0
 unfolding printed
@@ -106,13 +101,13 @@ part_long l k = ap length (part_rest l k) ∙ length-drop k l
 pub feeds_some : (d : Dialogue) (input : List ℕ) (r : Fed) (left : Dialogue) → Feeds d input r left → 0 < length input → 0 < r.used
 feeds_some d input r left feeds h = go r.reply refl
   where
-    go : (y : Reply) → r.reply ≡ y → 0 < r.used
-    go Nothing e = omega (arith, feeds.stops e)
-    go (One a) e = elim (dec_lt 0 r.used) [
+    go : (y : Option Answer) → r.reply ≡ y → 0 < r.used
+    go None e = omega (arith, feeds.stops e)
+    go (Some a) e = elim (dec_lt 0 r.used) [
       | yes q ↦ q
       | no q ↦
           let none : r.used ≡ 0 = omega arith in
-          omega (arith, ap (λ (y : Reply). length (replied y)) e, ap (λ (o : Out (List Answer) Dialogue). length o.answer) (feeds.says ∙ fed_nothing d input r.used none))
+          omega (arith, ap (λ (y : Option Answer). length (replied y)) e, ap (λ (o : Out (List Answer) Dialogue). length o.answer) (feeds.says ∙ fed_nothing d input r.used none))
     ]
 
 -- a dialogue that was fed the first bytes of an input, and a text with what it printed
@@ -153,48 +148,28 @@ module _ (d : Dialogue) (input text : List ℕ) (used end : ℕ) (text' : List �
       all : before ++ replied r.reply ≡ (fed d (take (used + r.used) input)).answer
       all = ap (λ (o : Out (List Answer) Dialogue). before ++ o.answer) says ∙ sym (ap (λ (o : Out (List Answer) Dialogue). o.answer) both_fed)
 
--- the loop has ended: no input is left, or no room
-pub stopped : (used bytes end room : ℕ) → used ≤ bytes → (leb (end + 84) room && ltb used bytes) ≡ false → (used ≡ bytes) ⊎ (room < end + 84)
-stopped used bytes end room h e = elim (dec_lt used bytes) [
-  | yes q ↦ inr (leb-false (end + 84) room (sym (and_last (leb (end + 84) room) (ltb used bytes) (lt-ltb used bytes q)) ∙ e))
-  | no q ↦ inl (omega arith)
-]
-  where
-    and_last : (x y : Bool) → y ≡ true → (x && y) ≡ x
-    and_last true y q = q
-    and_last false y q = refl
+-- ---- for callers of serve: the rest of an input
 
--- ---- for callers of serve: parts of an input, one after the other
+module _ (d : Dialogue) (input text : List ℕ) (r : Served) (text' : List ℕ) (left : Dialogue) (serves : Serves d input text r text' left) where
+  -- what is left of it is fed to what is left
+  pub served_rest : fed d input ≡ out ((fed d (take r.used input)).answer ++ (fed left (drop r.used input)).answer) (fed left (drop r.used input)).left
+  served_rest =
+      ap (fed d) (sym (take-append-drop r.used input))
+      ∙ fed_parts d (take r.used input) (drop r.used input)
+      ∙ ap (λ (l : Dialogue). out ((fed d (take r.used input)).answer ++ (fed l (drop r.used input)).answer) (fed l (drop r.used input)).left) (sym serves.leaves)
 
-module _ (d : Dialogue) (input text : List ℕ) (at : ℕ) (left : Dialogue) (within : at ≤ length input) (was : left ≡ (fed d (take at input)).left)
-    (r : Served) (text' : List ℕ) (left' : Dialogue) (serves : Serves left (take (length input - at) (drop at input)) text r text' left') where
-  pub served_within : at + r.used ≤ length input
-  served_within = omega (arith, serves.within, part_long input at)
-
-  pub served_leaves : left' ≡ (fed d (take (at + r.used) input)).left
-  served_leaves =
-      serves.leaves
-      ∙ ap₂ (λ (x : Dialogue) (y : List ℕ). (fed x (take r.used y)).left) was (part_rest input at)
-      ∙ sym (ap (λ (o : Out (List Answer) Dialogue). o.left) (fed_parts d (take at input) (take r.used (drop at input))))
-      ∙ ap (λ (l : List ℕ). (fed d l).left) (sym (take-add at r.used input))
-
-  -- where the text has room for an answer, some input is used
-  pub served_some : 84 ≤ length text → at < length input → 0 < r.used
+  -- where the text has room for an answer, some of it is used
+  pub served_some : 84 ≤ length text → 0 < length input → 0 < r.used
   served_some room h = elim (dec_lt 0 r.used) [
     | yes q ↦ q
     | no q ↦
         let none : r.used ≡ 0 = omega arith in
-        let said = printed (fed left (take r.used (take (length input - at) (drop at input)))).answer in
-        let no_text : length said ≡ 0 =
-        ap (λ (o : Out (List Answer) Dialogue). length (printed o.answer)) (fed_nothing left _ r.used none) ∙ none_printed in
-        absurd (⊎_elim (λ e. omega (arith, part_long input at)) (λ e. omega (arith, text_ends text said 0 serves.prints)) serves.stops)
+        let said = printed (fed d (take r.used input)).answer in
+        let no_text : length said ≡ 0 = ap (λ (o : Out (List Answer) Dialogue). length (printed o.answer)) (fed_nothing d input r.used none) ∙ none_printed in
+        absurd (⊎_elim (λ e. omega arith) (λ e. omega (arith, text_ends text said 0 serves.prints)) serves.stops)
   ]
 
 -- none of an input is fed yet
 pub fed_none : (d : Dialogue) (input : List ℕ) → d ≡ (fed d (take 0 input)).left
 unfolding fed
 fed_none d input = refl
-
--- all of it is
-pub fed_whole : (d : Dialogue) (input : List ℕ) (at : ℕ) (left : Dialogue) → length input ≤ at → left ≡ (fed d (take at input)).left → left ≡ (fed d input).left
-fed_whole d input at left h e = e ∙ ap (λ (l : List ℕ). (fed d l).left) (take_all at input h)

@@ -1,4 +1,5 @@
 -- The answers to an input are those to its lines in order, in whatever parts it comes. Assumes nothing.
+use Rattle.std.specs.Prelude.{Option}
 use mathlib.Core.Path.{◌≡◌, refl, sym, ap, ◌∙◌}
 use mathlib.Core.Bool.{Bool, true, false}
 use mathlib.Core.List.{List, [], ◌∷◌, ◌++◌, append_assoc, append-nil}
@@ -103,7 +104,7 @@ behind_byte (l ∷ ls) p b = ap (λ (z : List ℕ). z ∷ ls) (sym (append_assoc
 -- what is kept of a line is answered as the line
 cut_ended : (n t : ℕ) (m : Mem) (p : List ℕ) → ended (dialogue n t m (take 65 p)) ≡ taken (answered huge_order n t m (read_line p))
 unfolding ended
-cut_ended n t m p = ap (λ (c : Line). taken (answered huge_order n t m c)) (reading.cut_line p)
+cut_ended n t m p = ap (λ (c : Option Line). taken (answered huge_order n t m c)) (reading.cut_line p)
 
 -- the answers where the input has ended
 abbrev all_said : Out (List Answer) Dialogue → List Answer
@@ -128,7 +129,7 @@ unfolding answers fed lines_of replies
 answers_by_lines n t m [] [] = ap (λ (o : Out (List Answer) Mem). o.answer) (sym (finish_none n t m [] refl))
 answers_by_lines n t m (b ∷ p) [] =
     ap (λ (o : Out (List Answer) Mem). o.answer) (sym (finish_last n t m (take 65 (b ∷ p)) (λ e. omega arith) refl))
-    ∙ ap (λ (c : Line). (answered huge_order n t m c).answer.answer ∷ []) (reading.cut_line (b ∷ p))
+    ∙ ap (λ (c : Option Line). (answered huge_order n t m c).answer.answer ∷ []) (reading.cut_line (b ∷ p))
 answers_by_lines n t m p (b ∷ input) =
     let o = answered huge_order n t m (read_line p) in
     by_byte n t m p b input (eqb b LF)

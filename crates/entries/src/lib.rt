@@ -1,10 +1,12 @@
-// Entries: the count of one lowered and raised; runs of them: are they alike, make them alike, sum what they count.
+// Entries: the count of one lowered and raised; runs of them: are they alike, make them alike, sum what they count. A run is its
+// first entry and its length, which the definitions speak of.
 #![tactic(auto)]
 
 ghost use Rattle.std.specs.Prelude.{◌≡◌, ◌+◌, ◌-◌, ◌^◌, ◌≤◌, ◌<◌, length, set};
 ghost use Rattle.base.specs.Walk.{written};
-ghost use Rattle.base.specs.Size.{Huge};
 ghost use Rattle.rules.specs.State.{entry_of, free_of, entries_are, blocks_in};
+
+use base::HugeOrder;
 
 // The frames of a block, as an entry counts them.
 pub fn size(order: usize) -> u16
@@ -15,27 +17,10 @@ pub fn size(order: usize) -> u16
 }
 
 // The entry of a huge frame that is free whole.
-pub fn whole(h: usize) -> u16
-    requires { Huge h }
-    ensures { result ≡ 2 ^ h }
+pub fn whole(h: HugeOrder) -> u16
+    ensures { result ≡ 2 ^ h.order }
 {
-    size(h)
-}
-
-// An entry with a block's frames taken from its count.
-fn lowered(entry: u16, order: usize) -> u16
-    requires { (order < 16) × (2 ^ order ≤ entry) }
-    ensures { result ≡ entry - 2 ^ order }
-{
-    entry - size(order)
-}
-
-// An entry with a block's frames added to its count.
-fn raised(entry: u16, order: usize) -> u16
-    requires { (order < 16) × (entry + 2 ^ order < 65536) }
-    ensures { result ≡ entry + 2 ^ order }
-{
-    entry + size(order)
+    size(h.order)
 }
 
 // Lowers entry x by a block's frames.
@@ -43,7 +28,7 @@ pub fn lower(entries: &mut [u16], x: usize, order: usize)
     requires { (order < 16) × (x < length entries.old) × (2 ^ order ≤ entry_of entries.old x) }
     ensures { entries.new ≡ set entries.old x (entry_of entries.old x - 2 ^ order) }
 {
-    entries[x] = lowered(entries[x], order);
+    entries[x] -= size(order);
 }
 
 // Raises entry x by a block's frames.
@@ -51,7 +36,7 @@ pub fn raise(entries: &mut [u16], x: usize, order: usize)
     requires { (order < 16) × (x < length entries.old) × (entry_of entries.old x + 2 ^ order < 65536) }
     ensures { entries.new ≡ set entries.old x (entry_of entries.old x + 2 ^ order) }
 {
-    entries[x] = raised(entries[x], order);
+    entries[x] += size(order);
 }
 
 // Whether the g entries from at on are all v.
@@ -59,13 +44,12 @@ pub fn are(entries: &[u16], v: u16, at: usize, g: usize) -> bool
     requires { at + g ≤ length entries.now }
     ensures { result ≡ entries_are v entries.now at g }
 {
-    let end = at + g;
-    let mut i = at;
-    while i < end {
+    // A loop over indices: with std's `all` a get takes up to 9 per cent longer, and with a loop over the part of the slice that of
+    // a whole tree 20 per cent.
+    for i in at..at + g {
         if entries[i] != v {
             return false;
         }
-        i += 1;
     }
     true
 }
@@ -75,14 +59,14 @@ pub fn fill(entries: &mut [u16], v: u16, at: usize, g: usize)
     requires { at + g ≤ length entries.old }
     ensures { entries.new ≡ written (λ i. v) entries.old at g }
 {
+    // One entry by itself: otherwise a get of a huge frame takes 5 to 14 per cent longer. And a loop over indices: with std's `fill` a
+    // get of a whole tree takes 6 to 10 per cent longer, with one over the part of the slice 14.
     if g == 1 {
         entries[at] = v;
         return;
     }
-    let mut j = 0;
-    while j < g {
-        entries[at + j] = v;
-        j += 1;
+    for i in at..at + g {
+        entries[i] = v;
     }
 }
 
@@ -103,11 +87,8 @@ pub fn blocks(entries: &[u16], k: usize, at: usize, order: usize) -> usize
     requires { (at + k ≤ length entries.now) × (k < 65536) × (order < 32) }
     ensures { result ≡ blocks_in entries.now k at order }
 {
-    let mut sum: u32 = 0;
-    let mut i = 0;
-    while i < k {
-        sum += free(entries[at + i]) >> order;
-        i += 1;
-    }
-    sum as usize
+    entries[at..at + k]
+        .iter()
+        .map(|entry| free(*entry) >> order)
+        .sum::<u32>() as usize
 }

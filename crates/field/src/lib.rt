@@ -1,117 +1,99 @@
 // The rows of one huge frame, of huge order h: stores, tests and counts of their bits.
+// Some are always inlined, since a Result with a number in it comes back through memory.
 #![tactic(auto)]
 
 ghost use Rattle.std.specs.Prelude.{◌≡◌};
 ghost use Rattle.base.specs.Code.{out};
-ghost use Rattle.base.specs.Size.{Huge};
+ghost use Rattle.base.specs.Refused.{code_of};
 ghost use Rattle.bitfield_rules.specs.Calls as spec;
+ghost use Rattle.bitfield_rules.specs.Calls.{count_of, answered_of};
 ghost use Rattle.bitfield_rules.specs.Ensured.{Sets, Fills, CountsZeros, TellsZero, Toggles};
 
-use bitfield_rules::{Answered, ZeroCount};
+use base::{HugeOrder, Refusal};
 
-// The refusals of a call on the rows of a huge frame, in document 01's order: 0 where there is none.
-fn rows_code(h: usize, len: usize) -> u32
-    requires { Huge h }
-    ensures { result ≡ spec.rows_code h len }
+// The checks of a call on the rows of a huge frame, in document 01's order.
+#[inline(always)]
+fn rows(h: HugeOrder, len: usize) -> Result<(), Refusal>
+    ensures { code_of result ≡ spec.rows_code h.order len }
 {
-    if len == base::size(h - 6) { 0 } else { 3 }
+    if len == h.rows() {
+        Ok(())
+    } else {
+        Err(Refusal::Lent)
+    }
 }
 
-pub fn order_code(h: usize, len: usize, order: usize) -> u32
-    requires { Huge h }
-    ensures { result ≡ spec.order_code h len order }
+#[inline(always)]
+pub fn order(h: HugeOrder, len: usize, order: usize) -> Result<(), Refusal>
+    ensures { code_of result ≡ spec.order_code h.order len order }
 {
-    let code = rows_code(h, len);
-    if code != 0 {
-        return code;
+    rows(h, len)?;
+    if order <= h.order {
+        Ok(())
+    } else {
+        Err(Refusal::Order)
     }
-    if order <= h { 0 } else { 4 }
 }
 
 // The last place that a block of the order can have is also the mask of the aligned places: one test for the two.
-fn block_code(h: usize, len: usize, place: usize, order: usize) -> u32
-    requires { Huge h }
-    ensures { result ≡ spec.block_code h len place order }
+#[inline(always)]
+fn block(h: HugeOrder, len: usize, place: usize, order: usize) -> Result<(), Refusal>
+    ensures { code_of result ≡ spec.block_code h.order len place order }
 {
-    let code = order_code(h, len, order);
-    if code != 0 {
-        return code;
-    }
-    let last = base::size(h) - base::size(order);
+    self::order(h, len, order)?;
+    let last = h.frames() - base::size(order);
     if place & last == place {
-        return 0;
+        Ok(())
+    } else if last < place {
+        Err(Refusal::Range)
+    } else {
+        Err(Refusal::Alignment)
     }
-    if last < place { 5 } else { 6 }
 }
 
-pub fn set(h: usize, rows: &mut [u64], start: usize, end: usize, value: bool) -> u32
-    requires { Huge h }
-    ensures { Sets h rows.old start end value result rows.new }
+pub fn set(
+    h: HugeOrder,
+    rows: &mut [u64],
+    start: usize,
+    end: usize,
+    value: bool,
+) -> Result<(), Refusal>
+    ensures { Sets h.order rows.old start end value (code_of result) rows.new }
 {
-    let code = rows_code(h, rows.len());
-    if code != 0 {
-        return code;
-    }
-    if end < start {
-        return 5;
-    }
-    if base::size(h) < end {
-        return 5;
+    self::rows(h, rows.len())?;
+    if end < start || h.frames() < end {
+        return Err(Refusal::Range);
     }
     bits::write(rows, start, end, value);
-    0
+    Ok(())
 }
 
-pub fn fill(h: usize, rows: &mut [u64], value: bool) -> u32
-    requires { Huge h }
-    ensures { Fills h rows.old value result rows.new }
+pub fn fill(h: HugeOrder, rows: &mut [u64], value: bool) -> Result<(), Refusal>
+    ensures { Fills h.order rows.old value (code_of result) rows.new }
 {
-    let code = rows_code(h, rows.len());
-    if code != 0 {
-        return code;
-    }
+    self::rows(h, rows.len())?;
     bits::fill_rows(rows, bits::solid_row(value));
-    0
+    Ok(())
 }
 
-pub fn count_zeros(h: usize, rows: &[u64]) -> ZeroCount
-    requires { Huge h }
-    ensures { CountsZeros h rows.now result }
+pub fn count_zeros(h: HugeOrder, rows: &[u64]) -> Result<usize, Refusal>
+    ensures { CountsZeros h.order rows.now (count_of result) }
 {
-    let code = rows_code(h, rows.len());
-    if code != 0 {
-        return ZeroCount {
-            code: code,
-            zeros: 0,
-        };
-    }
-    ZeroCount {
-        code: 0,
-        zeros: bits::zeros(rows),
-    }
+    self::rows(h, rows.len())?;
+    Ok(bits::zeros(rows))
 }
 
-pub fn is_zero(h: usize, rows: &[u64], place: usize, order: usize) -> Answered
-    requires { Huge h }
-    ensures { TellsZero h rows.now place order result }
+pub fn is_zero(h: HugeOrder, rows: &[u64], place: usize, order: usize) -> Result<bool, Refusal>
+    ensures { TellsZero h.order rows.now place order (answered_of result) }
 {
-    let code = block_code(h, rows.len(), place, order);
-    if code != 0 {
-        return Answered {
-            code: code,
-            yes: false,
-        };
-    }
-    Answered {
-        code: 0,
-        yes: bits::block_is(rows, place, order, false),
-    }
+    block(h, rows.len(), place, order)?;
+    Ok(bits::block_is(rows, place, order, false))
 }
 
-// Turns whole rows, once all of them are seen to be as expected: 0, else 7. A turn of the loop sees two rows, one from each
-// end. Two rows at most are stored by themselves, as a loop takes longer than they do.
-fn toggle_rows(rows: &mut [u64], expected: bool) -> u32
-    ensures { out result rows.new ≡ spec.turn_rows rows.old expected }
+// Turns whole rows, once all of them are seen to be as expected. A turn of the loop sees two rows, one from each end, as a loop
+// over each row takes longer. Two rows at most are stored by themselves, as a loop takes longer than they do.
+fn toggle_rows(rows: &mut [u64], expected: bool) -> Result<(), Refusal>
+    ensures { out (code_of result) rows.new ≡ spec.turn_rows rows.old expected }
 {
     let want = bits::solid_row(expected);
     let len = rows.len();
@@ -120,37 +102,37 @@ fn toggle_rows(rows: &mut [u64], expected: bool) -> u32
     while i < e {
         e -= 1;
         if rows[i] != want || rows[e] != want {
-            return 7;
+            return Err(Refusal::Memory);
         }
         i += 1;
     }
     if 2 < len {
         bits::fill_rows(rows, !want);
-        return 0;
-    }
-    if 0 < len {
+    } else if 0 < len {
         rows[0] = !want;
         rows[len - 1] = !want;
     }
-    0
+    Ok(())
 }
 
-pub fn toggle(h: usize, rows: &mut [u64], place: usize, order: usize, expected: bool) -> u32
-    requires { Huge h }
-    ensures { Toggles h rows.old place order expected result rows.new }
+pub fn toggle(
+    h: HugeOrder,
+    rows: &mut [u64],
+    place: usize,
+    order: usize,
+    expected: bool,
+) -> Result<(), Refusal>
+    ensures { Toggles h.order rows.old place order expected (code_of result) rows.new }
 {
-    let code = block_code(h, rows.len(), place, order);
-    if code != 0 {
-        return code;
+    block(h, rows.len(), place, order)?;
+    if 6 < order {
+        let i = place / 64;
+        let e = i + base::size(order - 6);
+        return toggle_rows(&mut rows[i..e], expected);
     }
-    if order <= 6 {
-        if bits::block_is(rows, place, order, expected) {
-            bits::write_block(rows, place, order, !expected);
-            return 0;
-        }
-        return 7;
+    if !bits::block_is(rows, place, order, expected) {
+        return Err(Refusal::Memory);
     }
-    let i = place / 64;
-    let e = i + base::size(order - 6);
-    toggle_rows(&mut rows[i..e], expected)
+    bits::write_block(rows, place, order, !expected);
+    Ok(())
 }

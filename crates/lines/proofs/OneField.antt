@@ -1,6 +1,7 @@
 -- One field of a line, both ways: what was read stands there, and what stands there is read. Assumes nothing.
+use Rattle.std.specs.Prelude.{Some}
 use mathlib.Core.Path.{◌≡◌, refl, sym, ap, ap₂, ◌∙◌}
-use mathlib.Core.Bool.{Bool, true, false, true≢false}
+use mathlib.Core.Bool.{Bool, true, false}
 use mathlib.Core.List.{List, [], ◌∷◌, ◌++◌}
 use Prim.Native.Nat.{ℕ, ◌+◌, ◌-◌, ◌^◌, ◌≤◌, ◌<◌}
 use native.Mathlib.Numerals.{add-one}
@@ -41,18 +42,16 @@ stands l at n e s r = record {
         ∙ ap₂ (λ (x y : List ℕ). x ++ y) r.text (drop-drop (e - (at + 1)) (at + 1) l ∙ ap (λ (k : ℕ). drop k l) there)
 
 -- what was read stands there
-pub field_stands : (l : List ℕ) (at : ℕ) (x : Number) → x ≡ field_at l at → x.good ≡ true → Field l at x.value x.next
-field_stands l at x e g = go (eqb (get_or l at 0) space) refl e
+pub field_stands : (l : List ℕ) (at : ℕ) (x : Number) → field_at l at ≡ Some x → Field l at x.value x.next
+field_stands l at x e = go (eqb (get_or l at 0) space) refl e
   where
-    go : (b : Bool) → eqb (get_or l at 0) space ≡ b → x ≡ pick b (number_at l (at + 1)) (number false 0 0) → Field l at x.value x.next
-    go true q e =
-        stands l at x.value x.next (eqb-true (get_or l at 0) space q)
-        (written_read l (at + 1) x.value x.next (sym e ∙ ap (λ (b : Bool). number b x.value x.next) g))
-    go false q e = absurd (true≢false (sym g ∙ ap (λ (n : Number). n.good) e))
+    go : (b : Bool) → eqb (get_or l at 0) space ≡ b → pick b (number_at l (at + 1)) (number false 0 0) ≡ Some x → Field l at x.value x.next
+    go true q e = stands l at x.value x.next (eqb-true (get_or l at 0) space q) (written_read l (at + 1) x.value x.next e)
+    go false q e = cc
 
 -- what stands there is read
 pub field_read : (l pre : List ℕ) (at n : ℕ) (rest : List ℕ) → l ≡ pre ++ (field n ++ rest) → at ≡ length pre → n < 2 ^ 64 → is_digit (get_or rest 0 0) ≡ false
-    → number true n (at + 1 + places n) ≡ field_at l at
+    → field_at l at ≡ number true n (at + 1 + places n)
 field_read l pre at n rest e f h s =
-    rw (e, f) (field_there (pre ++ (field n ++ rest)) (length pre) (get_or-append_seam pre space (decimal n ++ rest) 0)
-    (sym (rw (append_snoc pre space (decimal n ++ rest), length-append pre (space ∷ [])) at (read_written (pre ++ (space ∷ [])) n rest h s))))
+    rw (e, f) (sym (field_there (pre ++ (field n ++ rest)) (length pre) (get_or-append_seam pre space (decimal n ++ rest) 0)
+    (sym (rw (append_snoc pre space (decimal n ++ rest), length-append pre (space ∷ [])) at (read_written (pre ++ (space ∷ [])) n rest h s)))))

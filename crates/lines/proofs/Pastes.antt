@@ -11,7 +11,6 @@ use Rattle.base.specs.Code.{Out, out}
 use Rattle.decimal.specs.Decimal.{decimal, number_to}
 use Rattle.decimal.proofs.Laws.{length_decimal}
 use Rattle.lines.specs.Answer.{text_to}
-use Rattle.lines.proofs.Texts.{decimal_short}
 
 paste_behind : (l s t : List ℕ) (at : ℕ) → at + length s ≤ length l
     → paste (paste l at s (length s)) (at + length s) t (length t) ≡ paste l at (s ++ t) (length (s ++ t))
@@ -47,7 +46,3 @@ text_number l at n = rw (length_decimal n)
 -- where a text ends
 pub text_ends : (l s : List ℕ) (at : ℕ) {r : ℕ} {l' : List ℕ} → out r l' ≡ text_to l at s → r ≡ at + length s
 text_ends l s at e = ap (λ (o : Out ℕ (List ℕ)). o.answer) e
-
--- where a number ends
-pub number_ends : (l : List ℕ) (at n : ℕ) {r : ℕ} {l' : List ℕ} → out r l' ≡ number_to l at n → r ≤ at + 20
-number_ends l at n e = omega (arith, text_ends l (decimal n) at (e ∙ text_number l at n), decimal_short n)

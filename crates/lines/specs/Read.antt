@@ -1,5 +1,5 @@
 -- Document 01, "Lines to check": which lines are good, and what each asks for.
-use Rattle.std.specs.Prelude.{false, ◌&&◌, List, [], ◌∷◌, ◌++◌, ℕ, zero, suc, ◌+◌, eqb, leb, length, get_or}
+use Rattle.std.specs.Prelude.{false, Option, Some, None, List, [], ◌∷◌, ◌++◌, ℕ, ◌+◌, eqb, leb, length, get_or}
 use Rattle.base.specs.Walk.{pick}
 use Rattle.rules.specs.declared.Init.{Init}
 use Rattle.rules.specs.declared.Init.TheVariants.{FreeAll, AllocAll}
@@ -7,9 +7,11 @@ use Rattle.rules.specs.Numbers.{init_number}
 use Rattle.decimal.specs.declared.Number.{Number}
 use Rattle.decimal.specs.Decimal.{decimal, number, number_at}
 use Rattle.lines.specs.declared.Line.{Line}
-use Rattle.lines.specs.declared.Line.TheVariants.{Starts, Changes, Asks, Bad}
+use Rattle.lines.specs.declared.Line.TheVariants.{Starts, Changes, Asks}
 use Rattle.lines.specs.declared.Change.TheVariants.{Get, GetAt, Put, Recover}
 use Rattle.lines.specs.declared.Question.TheVariants.{IsFree, StatsOfAll, StatsAt, Audit}
+use Rattle.lines.specs.declared.Fields.{Fields}
+use Rattle.lines.specs.declared.Fields.TheVariants.{Nothing, One, Two, Three}
 use Rattle.lines.specs.Bytes.{space, letter_i, letter_g, letter_p, letter_f, letter_q, letter_s, letter_t, letter_a, letter_r}
 
 -- "I N m with T = 4"
@@ -17,63 +19,67 @@ abbrev pub short_tree : ℕ
 short_tree = 4
 
 -- "S", "A", "R": a letter alone
-abbrev pub line_alone : ℕ → Line
+abbrev pub line_alone : ℕ → Option Line
 line_alone l =
-    pick (eqb l letter_s) (Asks StatsOfAll)
-    (pick (eqb l letter_a) (Asks Audit)
-    (pick (eqb l letter_r) (Changes Recover)
-    Bad))
+    pick (eqb l letter_s) (Some (Asks StatsOfAll))
+    (pick (eqb l letter_a) (Some (Asks Audit))
+    (pick (eqb l letter_r) (Some (Changes Recover))
+    None))
 
 -- "m 0 free, 1 held"; "another m is bad too"
-abbrev pub line_start : ℕ → ℕ → ℕ → Line
-line_start n t m = pick (eqb m (init_number FreeAll)) (Starts n t FreeAll) (pick (eqb m (init_number AllocAll)) (Starts n t AllocAll) Bad)
+abbrev pub line_start : ℕ → ℕ → ℕ → Option Line
+line_start n t m =
+    pick (eqb m (init_number FreeAll)) (Some (Starts n t FreeAll)) (pick (eqb m (init_number AllocAll)) (Some (Starts n t AllocAll)) None)
 
 -- "G row order", "P frame order", "F frame order", "Q frame order", "T frame order", "I N m": a letter and two numbers
-abbrev pub line_two : ℕ → ℕ → ℕ → Line
+abbrev pub line_two : ℕ → ℕ → ℕ → Option Line
 line_two l a b =
-    pick (eqb l letter_g) (Changes (Get a b))
-    (pick (eqb l letter_p) (Changes (GetAt a b))
-    (pick (eqb l letter_f) (Changes (Put a b))
-    (pick (eqb l letter_q) (Asks (IsFree a b))
-    (pick (eqb l letter_t) (Asks (StatsAt a b))
+    pick (eqb l letter_g) (Some (Changes (Get a b)))
+    (pick (eqb l letter_p) (Some (Changes (GetAt a b)))
+    (pick (eqb l letter_f) (Some (Changes (Put a b)))
+    (pick (eqb l letter_q) (Some (Asks (IsFree a b)))
+    (pick (eqb l letter_t) (Some (Asks (StatsAt a b)))
     (pick (eqb l letter_i) (line_start a short_tree b)
-    Bad)))))
+    None)))))
 
 -- "I N T m": a letter and three numbers
-abbrev pub line_three : ℕ → ℕ → ℕ → ℕ → Line
-line_three l a b c = pick (eqb l letter_i) (line_start a b c) Bad
+abbrev pub line_three : ℕ → ℕ → ℕ → ℕ → Option Line
+line_three l a b c = pick (eqb l letter_i) (line_start a b c) None
 
 -- "one space between decimal fields": a space at a place, and a number after it
-abbrev pub field_at : List ℕ → ℕ → Number
+abbrev pub field_at : List ℕ → ℕ → Option Number
 field_at l at = pick (eqb (get_or l at 0) space) (number_at l (at + 1)) (number false 0 0)
 
 -- a line of three numbers, which ends with the third
-unfoldable pub three_of : List ℕ → Number → Number → Number → Line
-three_of l x y z = pick (z.good && eqb z.next (length l)) (line_three (get_or l 0 0) x.value y.value z.value) Bad
+unfoldable pub three_of : List ℕ → Number → Number → Option Number → Option Line
+three_of l x y None = None
+three_of l x y (Some z) = pick (eqb z.next (length l)) (line_three (get_or l 0 0) x.value y.value z.value) None
 
 -- a line of two numbers, which ends with the second, or of three
-unfoldable pub two_of : List ℕ → Number → Number → Line
+unfoldable pub two_of : List ℕ → Number → Option Number → Option Line
 unfolding three_of
-two_of l x y = pick y.good (pick (eqb y.next (length l)) (line_two (get_or l 0 0) x.value y.value) (three_of l x y (field_at l y.next))) Bad
+two_of l x None = None
+two_of l x (Some y) = pick (eqb y.next (length l)) (line_two (get_or l 0 0) x.value y.value) (three_of l x y (field_at l y.next))
 
 -- a line that has a number has more than one
-abbrev pub one_of : List ℕ → Number → Line
-one_of l x = pick x.good (two_of l x (field_at l x.next)) Bad
+abbrev pub one_of : List ℕ → Option Number → Option Line
+one_of l None = None
+one_of l (Some x) = two_of l x (field_at l x.next)
 
 -- "lines of at most 64 bytes"; "an empty line, a longer line" and any other "are bad"
-unfoldable pub read_line : List ℕ → Line
+unfoldable pub read_line : List ℕ → Option Line
 unfolding two_of
-read_line l = pick (leb (length l) 64) (pick (eqb (length l) 1) (line_alone (get_or l 0 0)) (one_of l (field_at l 1))) Bad
+read_line l = pick (leb (length l) 64) (pick (eqb (length l) 1) (line_alone (get_or l 0 0)) (one_of l (field_at l 1))) None
 
 -- the same from the other side: the text of a field, of as many as there are, and of a line
 abbrev pub field : ℕ → List ℕ
 field n = space ∷ decimal n
 
-abbrev pub fields_text : ℕ → ℕ → ℕ → ℕ → List ℕ
-fields_text zero a b c = []
-fields_text (suc zero) a b c = field a
-fields_text (suc (suc zero)) a b c = field a ++ field b
-fields_text (suc (suc (suc k))) a b c = field a ++ field b ++ field c
+abbrev pub fields_text : Fields → List ℕ
+fields_text Nothing = []
+fields_text (One a) = field a
+fields_text (Two a b) = field a ++ field b
+fields_text (Three a b c) = field a ++ field b ++ field c
 
 abbrev pub two_text : ℕ → ℕ → ℕ → List ℕ
 two_text l a b = l ∷ (field a ++ field b)
@@ -89,7 +95,6 @@ text_of (Asks (IsFree frame order)) = two_text letter_q frame order
 text_of (Asks StatsOfAll) = letter_s ∷ []
 text_of (Asks (StatsAt frame order)) = two_text letter_t frame order
 text_of (Asks Audit) = letter_a ∷ []
-text_of Bad = []
 
 -- the short form of a start in trees of four
 abbrev pub short_text : ℕ → Init → List ℕ

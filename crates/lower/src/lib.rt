@@ -1,24 +1,27 @@
 // The lower level: document 01's calls on N frames in trees of T huge frames, over lent rows and entries. Each takes any
-// numbers and any contents, and a call that is refused writes nothing.
+// numbers and any contents, and a call that is refused writes nothing. Each is the routine of `lower_h` at huge order 9.
 #![tactic(auto)]
 
+ghost use Rattle.base.specs.Refused.{code_of};
 ghost use Rattle.base.specs.Size.{huge_order};
+ghost use Rattle.bitfield_rules.specs.Calls.{answered_of};
 ghost use Rattle.rules.specs.State.{mem};
+ghost use Rattle.rules.specs.Answers.{got_of, stats_of};
 ghost use Rattle.rules.specs.Ensured.{Gets, GetsAt, Puts, AsksFree, TellsStats, TellsStatsAt, FreesAll, ReservesAll};
 
-use bitfield_rules::Answered;
-use rules::{Got, Stats};
+use answers::{Denied, Free, Taken};
+use base::Refusal;
 
 // Starts with all frames below N free.
-pub fn free_all(n: usize, t: usize, rows: &mut [u64], entries: &mut [u16]) -> u32
-    ensures { FreesAll huge_order n t (mem rows.old entries.old) result (mem rows.new entries.new) }
+pub fn free_all(n: usize, t: usize, rows: &mut [u64], entries: &mut [u16]) -> Result<(), Refusal>
+    ensures { FreesAll huge_order n t (mem rows.old entries.old) (code_of result) (mem rows.new entries.new) }
 {
     lower_h::free_all(base::HUGE_ORDER, n, t, rows, entries)
 }
 
 // Starts with all frames below N held.
-pub fn reserve_all(n: usize, t: usize, rows: &mut [u64], entries: &mut [u16]) -> u32
-    ensures { ReservesAll huge_order n t (mem rows.old entries.old) result (mem rows.new entries.new) }
+pub fn reserve_all(n: usize, t: usize, rows: &mut [u64], entries: &mut [u16]) -> Result<(), Refusal>
+    ensures { ReservesAll huge_order n t (mem rows.old entries.old) (code_of result) (mem rows.new entries.new) }
 {
     lower_h::reserve_all(base::HUGE_ORDER, n, t, rows, entries)
 }
@@ -31,8 +34,8 @@ pub fn get(
     entries: &mut [u16],
     row: usize,
     order: usize,
-) -> Got
-    ensures { Gets huge_order n t (mem rows.old entries.old) row order result (mem rows.new entries.new) }
+) -> Result<Taken, Denied>
+    ensures { Gets huge_order n t (mem rows.old entries.old) row order (got_of result) (mem rows.new entries.new) }
 {
     lower_h::get(base::HUGE_ORDER, n, t, rows, entries, row, order)
 }
@@ -45,8 +48,8 @@ pub fn get_at(
     entries: &mut [u16],
     frame: usize,
     order: usize,
-) -> Got
-    ensures { GetsAt huge_order n t (mem rows.old entries.old) frame order result (mem rows.new entries.new) }
+) -> Result<Taken, Denied>
+    ensures { GetsAt huge_order n t (mem rows.old entries.old) frame order (got_of result) (mem rows.new entries.new) }
 {
     lower_h::get_at(base::HUGE_ORDER, n, t, rows, entries, frame, order)
 }
@@ -59,8 +62,8 @@ pub fn put(
     entries: &mut [u16],
     frame: usize,
     order: usize,
-) -> u32
-    ensures { Puts huge_order n t (mem rows.old entries.old) frame order result (mem rows.new entries.new) }
+) -> Result<(), Refusal>
+    ensures { Puts huge_order n t (mem rows.old entries.old) frame order (code_of result) (mem rows.new entries.new) }
 {
     lower_h::put(base::HUGE_ORDER, n, t, rows, entries, frame, order)
 }
@@ -73,15 +76,15 @@ pub fn is_free(
     entries: &[u16],
     frame: usize,
     order: usize,
-) -> Answered
-    ensures { AsksFree huge_order n t (mem rows.now entries.now) frame order result }
+) -> Result<bool, Refusal>
+    ensures { AsksFree huge_order n t (mem rows.now entries.now) frame order (answered_of result) }
 {
     lower_h::is_free(base::HUGE_ORDER, n, t, rows, entries, frame, order)
 }
 
 // Free frames, huge frames and trees.
-pub fn stats(n: usize, t: usize, rows: &[u64], entries: &[u16]) -> Stats
-    ensures { TellsStats huge_order n t (mem rows.now entries.now) result }
+pub fn stats(n: usize, t: usize, rows: &[u64], entries: &[u16]) -> Result<Free, Refusal>
+    ensures { TellsStats huge_order n t (mem rows.now entries.now) (stats_of result) }
 {
     lower_h::stats(base::HUGE_ORDER, n, t, rows, entries)
 }
@@ -94,8 +97,8 @@ pub fn stats_at(
     entries: &[u16],
     frame: usize,
     order: usize,
-) -> Stats
-    ensures { TellsStatsAt huge_order n t (mem rows.now entries.now) frame order result }
+) -> Result<Free, Refusal>
+    ensures { TellsStatsAt huge_order n t (mem rows.now entries.now) frame order (stats_of result) }
 {
     lower_h::stats_at(base::HUGE_ORDER, n, t, rows, entries, frame, order)
 }

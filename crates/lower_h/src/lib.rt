@@ -1,178 +1,141 @@
 // The calls of `lower` over the huge order h, for callers that have it as a value.
+// Some are always inlined, since a Result with a number in it comes back through memory.
 #![tactic(auto)]
 
-ghost use Rattle.base.specs.Size.{Huge};
+ghost use Rattle.base.specs.Refused.{code_of};
+ghost use Rattle.bitfield_rules.specs.Calls.{answered_of};
 ghost use Rattle.rules.specs.State.{mem};
+ghost use Rattle.rules.specs.Answers.{got_of, stats_of};
 ghost use Rattle.rules.specs.Ensured.{Gets, GetsAt, Puts, AsksFree, TellsStats, TellsStatsAt, FreesAll, ReservesAll};
 
-use bitfield_rules::Answered;
-use rules::{Got, Stats};
+use answers::{Denied, Free, Taken};
+use base::{HugeOrder, Refusal};
 
-pub fn free_all(h: usize, n: usize, t: usize, rows: &mut [u64], entries: &mut [u16]) -> u32
-    requires { Huge h }
-    ensures { FreesAll h n t (mem rows.old entries.old) result (mem rows.new entries.new) }
+pub fn free_all(
+    h: HugeOrder,
+    n: usize,
+    t: usize,
+    rows: &mut [u64],
+    entries: &mut [u16],
+) -> Result<(), Refusal>
+    ensures { FreesAll h.order n t (mem rows.old entries.old) (code_of result) (mem rows.new entries.new) }
 {
-    let code = refuse::sizes(h, n, t, rows.len(), entries.len());
-    if code != 0 {
-        return code;
-    }
+    let t = refuse::sizes(h, n, t, rows.len(), entries.len())?;
     starts::free_all(h, n, t, rows, entries);
-    0
+    Ok(())
 }
 
-pub fn reserve_all(h: usize, n: usize, t: usize, rows: &mut [u64], entries: &mut [u16]) -> u32
-    requires { Huge h }
-    ensures { ReservesAll h n t (mem rows.old entries.old) result (mem rows.new entries.new) }
+pub fn reserve_all(
+    h: HugeOrder,
+    n: usize,
+    t: usize,
+    rows: &mut [u64],
+    entries: &mut [u16],
+) -> Result<(), Refusal>
+    ensures { ReservesAll h.order n t (mem rows.old entries.old) (code_of result) (mem rows.new entries.new) }
 {
-    let code = refuse::sizes(h, n, t, rows.len(), entries.len());
-    if code != 0 {
-        return code;
-    }
+    let t = refuse::sizes(h, n, t, rows.len(), entries.len())?;
     starts::reserve_all(h, n, t, rows, entries);
-    0
+    Ok(())
 }
 
+#[inline(always)]
 pub fn get(
-    h: usize,
+    h: HugeOrder,
     n: usize,
     t: usize,
     rows: &mut [u64],
     entries: &mut [u16],
     row: usize,
     order: usize,
-) -> Got
-    requires { Huge h }
-    ensures { Gets h n t (mem rows.old entries.old) row order result (mem rows.new entries.new) }
+) -> Result<Taken, Denied>
+    ensures { Gets h.order n t (mem rows.old entries.old) row order (got_of result) (mem rows.new entries.new) }
 {
-    let code = refuse::start(h, n, t, rows.len(), entries.len(), row, order);
-    if code != 0 {
-        return Got {
-            code: code,
-            frame: 0,
-            probes: 0,
-        };
-    }
-    if order < h {
+    let t = refuse::start(h, n, t, rows.len(), entries.len(), row, order)?;
+    if order < h.order {
         return visits::get(h, n, t, rows, entries, row, order);
     }
     huge::get(h, n, t, entries, row, order)
 }
 
 pub fn get_at(
-    h: usize,
+    h: HugeOrder,
     n: usize,
     t: usize,
     rows: &mut [u64],
     entries: &mut [u16],
     frame: usize,
     order: usize,
-) -> Got
-    requires { Huge h }
-    ensures { GetsAt h n t (mem rows.old entries.old) frame order result (mem rows.new entries.new) }
+) -> Result<Taken, Denied>
+    ensures { GetsAt h.order n t (mem rows.old entries.old) frame order (got_of result) (mem rows.new entries.new) }
 {
-    let code = refuse::block(h, n, t, rows.len(), entries.len(), frame, order);
-    if code != 0 {
-        return Got {
-            code: code,
-            frame: 0,
-            probes: 0,
-        };
-    }
-    if order < h {
+    refuse::block(h, n, t, rows.len(), entries.len(), frame, order)?;
+    if order < h.order {
         return small::get_at(h, rows, entries, frame, order);
     }
     huge::get_at(h, entries, frame, order)
 }
 
 pub fn put(
-    h: usize,
+    h: HugeOrder,
     n: usize,
     t: usize,
     rows: &mut [u64],
     entries: &mut [u16],
     frame: usize,
     order: usize,
-) -> u32
-    requires { Huge h }
-    ensures { Puts h n t (mem rows.old entries.old) frame order result (mem rows.new entries.new) }
+) -> Result<(), Refusal>
+    ensures { Puts h.order n t (mem rows.old entries.old) frame order (code_of result) (mem rows.new entries.new) }
 {
-    let code = refuse::block(h, n, t, rows.len(), entries.len(), frame, order);
-    if code != 0 {
-        return code;
-    }
-    if order < h {
+    refuse::block(h, n, t, rows.len(), entries.len(), frame, order)?;
+    if order < h.order {
         return small::put(h, rows, entries, frame, order);
     }
     huge::put(h, entries, frame, order)
 }
 
 pub fn is_free(
-    h: usize,
+    h: HugeOrder,
     n: usize,
     t: usize,
     rows: &[u64],
     entries: &[u16],
     frame: usize,
     order: usize,
-) -> Answered
-    requires { Huge h }
-    ensures { AsksFree h n t (mem rows.now entries.now) frame order result }
+) -> Result<bool, Refusal>
+    ensures { AsksFree h.order n t (mem rows.now entries.now) frame order (answered_of result) }
 {
-    let code = refuse::block(h, n, t, rows.len(), entries.len(), frame, order);
-    if code != 0 {
-        return Answered {
-            code: code,
-            yes: false,
-        };
+    refuse::block(h, n, t, rows.len(), entries.len(), frame, order)?;
+    if order < h.order {
+        return Ok(small::is_free(h, rows, entries, frame, order));
     }
-    if order < h {
-        return Answered {
-            code: 0,
-            yes: small::is_free(h, rows, entries, frame, order),
-        };
-    }
-    Answered {
-        code: 0,
-        yes: huge::is_free(h, entries, frame, order),
-    }
+    Ok(huge::is_free(h, entries, frame, order))
 }
 
-pub fn stats(h: usize, n: usize, t: usize, rows: &[u64], entries: &[u16]) -> Stats
-    requires { Huge h }
-    ensures { TellsStats h n t (mem rows.now entries.now) result }
+pub fn stats(
+    h: HugeOrder,
+    n: usize,
+    t: usize,
+    rows: &[u64],
+    entries: &[u16],
+) -> Result<Free, Refusal>
+    ensures { TellsStats h.order n t (mem rows.now entries.now) (stats_of result) }
 {
-    let code = refuse::sizes(h, n, t, rows.len(), entries.len());
-    if code != 0 {
-        return Stats {
-            code: code,
-            free_frames: 0,
-            free_huge: 0,
-            free_trees: 0,
-        };
-    }
-    stats::all(h, n, t, entries)
+    let t = refuse::sizes(h, n, t, rows.len(), entries.len())?;
+    Ok(stats::all(h, n, t, entries))
 }
 
 pub fn stats_at(
-    h: usize,
+    h: HugeOrder,
     n: usize,
     t: usize,
     rows: &[u64],
     entries: &[u16],
     frame: usize,
     order: usize,
-) -> Stats
-    requires { Huge h }
-    ensures { TellsStatsAt h n t (mem rows.now entries.now) frame order result }
+) -> Result<Free, Refusal>
+    ensures { TellsStatsAt h.order n t (mem rows.now entries.now) frame order (stats_of result) }
 {
-    let code = refuse::frame(h, n, t, rows.len(), entries.len(), frame);
-    if code != 0 {
-        return Stats {
-            code: code,
-            free_frames: 0,
-            free_huge: 0,
-            free_trees: 0,
-        };
-    }
-    stats::at(h, t, rows, entries, frame, order)
+    let t = refuse::frame(h, n, t, rows.len(), entries.len(), frame)?;
+    Ok(stats::at(h, t, rows, entries, frame, order))
 }

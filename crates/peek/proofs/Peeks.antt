@@ -5,7 +5,7 @@ use native.Mathlib.Omega.{arith}
 use borrow.Author.Tests.{eq-eqb, ne_eqb}
 use Rattle.base.specs.Code.{Out, out}
 use Rattle.base.specs.Size.{Huge, huge_order}
-use Rattle.rules.specs.declared.Got.{Got}
+use Rattle.rules.specs.Numbered.{Got}
 use Rattle.rules.specs.State.{Mem}
 use Rattle.rules.specs.Calls.{get, put}
 use Rattle.rules.specs.Call.{RowCall, Call, called}

@@ -3,7 +3,7 @@ use Rattle.std.specs.Prelude.{◌≡◌, ℕ, eqb}
 use Rattle.base.specs.Walk.{pick}
 use Rattle.base.specs.Code.{Out, out}
 use Rattle.base.specs.Size.{huge_order}
-use Rattle.rules.specs.declared.Got.{Got}
+use Rattle.rules.specs.Numbered.{Got}
 use Rattle.rules.specs.State.{Mem}
 use Rattle.rules.specs.Calls.{get, put}
 use Rattle.rules.specs.Consistent.{Consistent}

@@ -3,9 +3,10 @@
 #![tactic(auto)]
 
 ghost use Rattle.rules.specs.State.{mem};
+ghost use Rattle.rules.specs.Answers.{got_of};
 ghost use Rattle.peek.specs.Peek.{Peeked};
 
-use rules::Got;
+use answers::{Denied, Taken};
 
 // Makes the get, and puts back what it took.
 pub fn get(
@@ -15,12 +16,11 @@ pub fn get(
     entries: &mut [u16],
     row: usize,
     order: usize,
-) -> Got
-    ensures { Peeked n t (mem rows.old entries.old) row order result (mem rows.new entries.new) }
+) -> Result<Taken, Denied>
+    ensures { Peeked n t (mem rows.old entries.old) row order (got_of result) (mem rows.new entries.new) }
 {
-    let got = lower::get(n, t, rows, entries, row, order);
-    if got.code == 0 {
-        lower::put(n, t, rows, entries, got.frame, order);
-    }
-    got
+    let taken = lower::get(n, t, rows, entries, row, order)?;
+    // It was just taken, so it is given back.
+    let _ = lower::put(n, t, rows, entries, taken.frame, order);
+    Ok(taken)
 }

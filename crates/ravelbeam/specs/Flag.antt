@@ -2,7 +2,7 @@
 use Rattle.std.specs.Prelude.{Bool, not, ℕ, eqb}
 use Rattle.base.specs.Walk.{pick}
 use Rattle.base.specs.Code.{Out, out}
-use Rattle.bitfield_rules.specs.declared.Answered.{Answered}
+use Rattle.bitfield_rules.specs.Calls.{Answered}
 
 -- whether a number that is lent as a flag means yes
 abbrev pub is_yes : ℕ → Bool

@@ -2,7 +2,10 @@
 // writes. Each has its call's own contract, or one of specs/Ensured where its numbers are others.
 #![tactic(auto)]
 
+ghost use Rattle.std.specs.Prelude.{◌≡◌, true};
+ghost use Rattle.base.specs.Refused.{code_of};
 ghost use Rattle.base.specs.Size.{huge_order};
+ghost use Rattle.rules.specs.Numbers.{is_tree, tree_at};
 ghost use Rattle.rules.specs.State.{mem};
 ghost use Rattle.rules.specs.Get.{got};
 ghost use Rattle.rules.specs.Queries.{statistics};
@@ -12,10 +15,80 @@ ghost use Rattle.rules.specs.Ensured.{Gets, GetsAt, Puts, TellsStats, TellsStats
 ghost use Rattle.rules.specs.Audit.{fault};
 ghost use Rattle.rules.specs.Recover.{recovered};
 ghost use Rattle.rules.specs.Why.{why};
+ghost use Rattle.rules.specs.Answers.{got_of, stats_of, why_of};
 ghost use Rattle.ravelbeam.specs.Flag.{is_yes};
 ghost use Rattle.ravelbeam.specs.Ensured.{FindsNumbers, FlagsZero, FlagsFree, PlacesRun};
 
-use row::Found;
+use answers::{Cause, Denied, Free, Taken};
+use base::Refusal;
+use shape::TreeSize;
+
+// The number of an answer: 0 where it is done.
+fn code<T: Copy>(answer: Result<T, Refusal>) -> u32
+    ensures { result ≡ code_of answer }
+{
+    match answer {
+        Ok(_) => 0,
+        Err(refusal) => refusal.number(),
+    }
+}
+
+// The numbers of a get.
+fn take(answer: Result<Taken, Denied>, frame: &mut usize, probes: &mut usize) -> u32
+    ensures { got result frame.new probes.new ≡ got_of answer }
+{
+    match answer {
+        Ok(taken) => {
+            *frame = taken.frame;
+            *probes = taken.probes;
+            0
+        }
+        Err(denied) => {
+            *frame = 0;
+            *probes = denied.probes;
+            denied.refusal.number()
+        }
+    }
+}
+
+// The numbers of what is free.
+fn count(
+    answer: Result<Free, Refusal>,
+    frames: &mut usize,
+    huge: &mut usize,
+    trees: &mut usize,
+) -> u32
+    ensures { statistics result frames.new huge.new trees.new ≡ stats_of answer }
+{
+    let free = answer.unwrap_or_default();
+    *frames = free.frames;
+    *huge = free.huge;
+    *trees = free.trees;
+    code(answer)
+}
+
+// The numbers of why a request is turned down.
+fn explain(answer: Result<Option<Cause>, Refusal>, reason: &mut u32, frame: &mut usize) -> u32
+    ensures { why result reason.new frame.new ≡ why_of answer }
+{
+    *reason = 0;
+    *frame = 0;
+    if let Ok(Some(cause)) = answer {
+        *reason = cause.number();
+        *frame = cause.frame();
+    }
+    code(answer)
+}
+
+// The first entry of a frame's tree, where T is a tree size; it is asked only past the checks.
+fn first_entry(t: usize, frame: usize) -> usize
+    ensures { is_tree t ≡ true → result ≡ tree_at huge_order t frame }
+{
+    match TreeSize::new(t) {
+        Some(size) => shape::tree_first(base::HUGE_ORDER, size, frame),
+        None => 0,
+    }
+}
 
 // The lowest clear block of a row, and the row with the block set.
 #[unsafe(no_mangle)]
@@ -27,22 +100,16 @@ pub extern "C" fn rb_first_zeros_aligned(
 ) -> u32
     ensures { FindsNumbers v order result place.new row.new }
 {
-    let found = row::first_zeros_aligned(v, order);
-    match found {
-        Found::At(p, w) => {
-            *place = p;
-            *row = w;
+    match row::first_zeros_aligned(v, order) {
+        Ok(found) => {
+            *place = found.place;
+            *row = found.row;
             0
         }
-        Found::Full => {
+        Err(refusal) => {
             *place = 0;
             *row = 0;
-            7
-        }
-        Found::BadOrder => {
-            *place = 0;
-            *row = 0;
-            4
+            refusal.number()
         }
     }
 }
@@ -52,7 +119,7 @@ pub extern "C" fn rb_first_zeros_aligned(
 pub extern "C" fn rb_bitfield_set(rows: &mut [u64], start: usize, end: usize, value: u32) -> u32
     ensures { Sets huge_order rows.old start end (is_yes value) result rows.new }
 {
-    bitfield::set(rows, start, end, value != 0)
+    code(bitfield::set(rows, start, end, value != 0))
 }
 
 // Turns the bits of a block, where all are as expected.
@@ -65,7 +132,7 @@ pub extern "C" fn rb_bitfield_toggle(
 ) -> u32
     ensures { Toggles huge_order rows.old place order (is_yes expected) result rows.new }
 {
-    bitfield::toggle(rows, place, order, expected != 0)
+    code(bitfield::toggle(rows, place, order, expected != 0))
 }
 
 // Whether the bits of a block are all clear.
@@ -79,8 +146,8 @@ pub extern "C" fn rb_bitfield_is_zero(
     ensures { FlagsZero huge_order rows.now place order result yes.new }
 {
     let answer = bitfield::is_zero(rows, place, order);
-    *yes = answer.yes as u32;
-    answer.code
+    *yes = answer.unwrap_or(false) as u32;
+    code(answer)
 }
 
 // The first clear block in the search order, with nothing written.
@@ -94,8 +161,8 @@ pub extern "C" fn rb_bitfield_first_zeros(
     ensures { FindsZeros huge_order rows.now start_row order (placed result place.new) }
 {
     let found = bitfield::first_zeros(rows, start_row, order);
-    *place = found.place;
-    found.code
+    *place = found.unwrap_or(0);
+    code(found)
 }
 
 // Sets the first clear block in the search order.
@@ -109,8 +176,8 @@ pub extern "C" fn rb_bitfield_set_first_zeros(
     ensures { SetsFirstZeros huge_order rows.old start_row order (placed result place.new) rows.new }
 {
     let found = bitfield::set_first_zeros(rows, start_row, order);
-    *place = found.place;
-    found.code
+    *place = found.unwrap_or(0);
+    code(found)
 }
 
 // Overwrites every bit.
@@ -118,7 +185,7 @@ pub extern "C" fn rb_bitfield_set_first_zeros(
 pub extern "C" fn rb_bitfield_fill(rows: &mut [u64], value: u32) -> u32
     ensures { Fills huge_order rows.old (is_yes value) result rows.new }
 {
-    bitfield::fill(rows, value != 0)
+    code(bitfield::fill(rows, value != 0))
 }
 
 // The number of clear bits.
@@ -127,8 +194,8 @@ pub extern "C" fn rb_bitfield_count_zeros(rows: &[u64], zeros: &mut usize) -> u3
     ensures { CountsZeros huge_order rows.now (zero_count result zeros.new) }
 {
     let counted = bitfield::count_zeros(rows);
-    *zeros = counted.zeros;
-    counted.code
+    *zeros = counted.unwrap_or(0);
+    code(counted)
 }
 
 // Starts with all frames below N free.
@@ -136,7 +203,7 @@ pub extern "C" fn rb_bitfield_count_zeros(rows: &[u64], zeros: &mut usize) -> u3
 pub extern "C" fn rb_free_all(n: usize, t: usize, rows: &mut [u64], entries: &mut [u16]) -> u32
     ensures { FreesAll huge_order n t (mem rows.old entries.old) result (mem rows.new entries.new) }
 {
-    lower::free_all(n, t, rows, entries)
+    code(lower::free_all(n, t, rows, entries))
 }
 
 // Starts with all frames below N held.
@@ -144,7 +211,7 @@ pub extern "C" fn rb_free_all(n: usize, t: usize, rows: &mut [u64], entries: &mu
 pub extern "C" fn rb_reserve_all(n: usize, t: usize, rows: &mut [u64], entries: &mut [u16]) -> u32
     ensures { ReservesAll huge_order n t (mem rows.old entries.old) result (mem rows.new entries.new) }
 {
-    lower::reserve_all(n, t, rows, entries)
+    code(lower::reserve_all(n, t, rows, entries))
 }
 
 // Takes the first free block of the start row's tree.
@@ -161,10 +228,8 @@ pub extern "C" fn rb_get(
 ) -> u32
     ensures { Gets huge_order n t (mem rows.old entries.old) row order (got result frame.new probes.new) (mem rows.new entries.new) }
 {
-    let taken = lower::get(n, t, rows, entries, row, order);
-    *frame = taken.frame;
-    *probes = taken.probes;
-    taken.code
+    let answer = lower::get(n, t, rows, entries, row, order);
+    take(answer, frame, probes)
 }
 
 // Takes the block at a frame.
@@ -182,9 +247,7 @@ pub extern "C" fn rb_get_at(
     ensures { GetsAt huge_order n t (mem rows.old entries.old) frame order (got result taken.new probes.new) (mem rows.new entries.new) }
 {
     let answer = lower::get_at(n, t, rows, entries, frame, order);
-    *taken = answer.frame;
-    *probes = answer.probes;
-    answer.code
+    take(answer, taken, probes)
 }
 
 // Gives a block back.
@@ -199,7 +262,7 @@ pub extern "C" fn rb_put(
 ) -> u32
     ensures { Puts huge_order n t (mem rows.old entries.old) frame order result (mem rows.new entries.new) }
 {
-    lower::put(n, t, rows, entries, frame, order)
+    code(lower::put(n, t, rows, entries, frame, order))
 }
 
 // Whether every frame of a block is free.
@@ -216,8 +279,8 @@ pub extern "C" fn rb_is_free(
     ensures { FlagsFree huge_order n t (mem rows.now entries.now) frame order result yes.new }
 {
     let answer = lower::is_free(n, t, rows, entries, frame, order);
-    *yes = answer.yes as u32;
-    answer.code
+    *yes = answer.unwrap_or(false) as u32;
+    code(answer)
 }
 
 // Free frames, huge frames that are free whole, and trees that are.
@@ -233,11 +296,8 @@ pub extern "C" fn rb_stats(
 ) -> u32
     ensures { TellsStats huge_order n t (mem rows.now entries.now) (statistics result free_frames.new free_huge.new free_trees.new) }
 {
-    let stats = lower::stats(n, t, rows, entries);
-    *free_frames = stats.free_frames;
-    *free_huge = stats.free_huge;
-    *free_trees = stats.free_trees;
-    stats.code
+    let answer = lower::stats(n, t, rows, entries);
+    count(answer, free_frames, free_huge, free_trees)
 }
 
 // The same at a frame, its huge frame or its tree, as the order says.
@@ -255,11 +315,8 @@ pub extern "C" fn rb_stats_at(
 ) -> u32
     ensures { TellsStatsAt huge_order n t (mem rows.now entries.now) frame order (statistics result free_frames.new free_huge.new free_trees.new) }
 {
-    let stats = lower::stats_at(n, t, rows, entries, frame, order);
-    *free_frames = stats.free_frames;
-    *free_huge = stats.free_huge;
-    *free_trees = stats.free_trees;
-    stats.code
+    let answer = lower::stats_at(n, t, rows, entries, frame, order);
+    count(answer, free_frames, free_huge, free_trees)
 }
 
 // The first faulty huge frame, and why it is.
@@ -274,10 +331,17 @@ pub extern "C" fn rb_audit(
 ) -> u32
     ensures { FindsFault huge_order n t (mem rows.now entries.now) (fault result huge.new reason.new) }
 {
-    let fault = staff::audit(n, t, rows, entries);
-    *huge = fault.huge;
-    *reason = fault.reason;
-    fault.code
+    *huge = 0;
+    *reason = 0;
+    match staff::audit(n, t, rows, entries) {
+        Ok(None) => 0,
+        Ok(Some(faulty)) => {
+            *huge = faulty.huge;
+            *reason = faulty.flaw.number();
+            0
+        }
+        Err(refusal) => refusal.number(),
+    }
 }
 
 // Puts counts right by the bits, and clears the bits under a mark.
@@ -293,9 +357,10 @@ pub extern "C" fn rb_recover(
     ensures { Recovers huge_order n t (mem rows.old entries.old) (recovered result entries_changed.new bitfields_changed.new) (mem rows.new entries.new) }
 {
     let recovered = staff::recover(n, t, rows, entries);
-    *entries_changed = recovered.entries;
-    *bitfields_changed = recovered.bitfields;
-    recovered.code
+    let mended = recovered.unwrap_or_default();
+    *entries_changed = mended.entries;
+    *bitfields_changed = mended.bitfields;
+    code(recovered)
 }
 
 // Why a get from a start row would be turned down.
@@ -312,10 +377,8 @@ pub extern "C" fn rb_why_get(
 ) -> u32
     ensures { TellsWhyGet huge_order n t (mem rows.now entries.now) row order (why result reason.new frame.new) }
 {
-    let why = staff::why_get(n, t, rows, entries, row, order);
-    *reason = why.reason;
-    *frame = why.frame;
-    why.code
+    let answer = staff::why_get(n, t, rows, entries, row, order);
+    explain(answer, reason, frame)
 }
 
 // Why a get of the block at a frame would be.
@@ -332,10 +395,8 @@ pub extern "C" fn rb_why_get_at(
 ) -> u32
     ensures { TellsWhyGetAt huge_order n t (mem rows.now entries.now) frame order (why result reason.new at.new) }
 {
-    let why = staff::why_get_at(n, t, rows, entries, frame, order);
-    *reason = why.reason;
-    *at = why.frame;
-    why.code
+    let answer = staff::why_get_at(n, t, rows, entries, frame, order);
+    explain(answer, reason, at)
 }
 
 // Why a put of the block at a frame would be.
@@ -352,10 +413,8 @@ pub extern "C" fn rb_why_put(
 ) -> u32
     ensures { TellsWhyPut huge_order n t (mem rows.now entries.now) frame order (why result reason.new at.new) }
 {
-    let why = staff::why_put(n, t, rows, entries, frame, order);
-    *reason = why.reason;
-    *at = why.frame;
-    why.code
+    let answer = staff::why_put(n, t, rows, entries, frame, order);
+    explain(answer, reason, at)
 }
 
 // The room of a frame's tree: nineteen counts.
@@ -370,10 +429,9 @@ pub extern "C" fn rb_room(
 ) -> u32
     ensures { TellsRoom huge_order n t (mem rows.now entries.now) frame result counts.new }
 {
-    let room = staff::room(n, t, rows, entries, frame);
-    let filled = room.counts;
-    *counts = filled;
-    room.code
+    // Filled where it is lent, with no copy of the array.
+    *counts = [0; 19];
+    code(staff_h::room(base::HUGE_ORDER, n, t, rows, entries, frame, counts))
 }
 
 // The entries of a frame's tree: where they begin among those lent, and how many they are.
@@ -389,13 +447,16 @@ pub extern "C" fn rb_tree_run(
 ) -> u32
     ensures { PlacesRun huge_order n t (mem rows.now entries.now) frame result offset.new length.new }
 {
-    let code = staff::tree_run_code(n, t, rows, entries, frame);
     let run = staff::tree_run(n, t, rows, entries, frame);
     *length = run.len();
-    if code != 0 {
-        *offset = 0;
-        return code;
+    match staff::tree_run_code(n, t, rows, entries, frame) {
+        Ok(()) => {
+            *offset = first_entry(t, frame);
+            0
+        }
+        Err(refusal) => {
+            *offset = 0;
+            refusal.number()
+        }
     }
-    *offset = shape::tree_first(base::HUGE_ORDER, t, frame);
-    0
 }

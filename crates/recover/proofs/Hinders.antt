@@ -1,6 +1,6 @@
 -- Where a reason can hinder: 1 and 3 at the last present huge frame, 5 at the absent ones. Assumes nothing.
 use mathlib.Core.Path.{◌≡◌, refl, sym, ap, ◌∙◌}
-use mathlib.Core.Bool.{Bool, true, false, not}
+use mathlib.Core.Bool.{Bool, true, false, not, ◌||◌}
 use mathlib.Core.Logic.{⊎_elim}
 use mathlib.Core.List.{List}
 use Prim.Native.Nat.{ℕ, ◌+◌, ◌-◌, ◌*◌, ◌^◌, ◌≤◌, ◌<◌}
@@ -55,17 +55,18 @@ module _ (h n : ℕ) (m : Mem) (x : ℕ) where
 module _ {h n t : ℕ} (rs es : List ℕ) (s : Sized h n t (lengths_of (mem rs es))) {last r : ℕ} (last_is : last ≡ huge_of h (n - 1))
     (r_is : r ≡ reason h n (mem rs es) last) where
   -- a reason of the last present one that hinders is enough
-  pub blocked_last : blocks_recovery r ≡ true → true ≡ not (recoverable h n t (mem rs es))
+  pub blocked_last : (eqb r 1 || eqb r 3) ≡ true → true ≡ not (recoverable h n t (mem rs es))
   unfolding recoverable
   blocked_last e =
+      let hinders : blocks_recovery (reason h n (mem rs es) last) ≡ true = rw (← r_is, e) in
       sym (ap not (all_not (λ x. not (blocks_recovery (reason h n (mem rs es) x))) (entries_needed h n t) 0 last (omega arith) (omega (arith, last_needed s last_is))
-      (ap not (rw r_is at e))))
+      (ap not hinders)))
 
   -- without one, the absent entries decide
-  pub blocked_absent : (r ≡ 1 → ⊥) → (r ≡ 3 → ⊥) → {needed : ℕ} {clean : Bool} → needed ≡ entries_needed h n t → clean ≡ entries_are 0 es (last + 1) (needed - (last + 1))
+  pub blocked_absent : (eqb r 1 || eqb r 3) ≡ false → {needed : ℕ} {clean : Bool} → needed ≡ entries_needed h n t → clean ≡ entries_are 0 es (last + 1) (needed - (last + 1))
       → not clean ≡ not (recoverable h n t (mem rs es))
   unfolding recoverable
-  blocked_absent n1 n3 {needed} {clean} needed_is clean_is = ap not (clean_is ∙ sym split)
+  blocked_absent other {needed} {clean} needed_is clean_is = ap not (clean_is ∙ sym split)
     where
       free : ℕ → Bool
       free x = not (blocks_recovery (reason h n (mem rs es) x))
@@ -76,7 +77,7 @@ module _ {h n t : ℕ} (rs es : List ℕ) (s : Sized h n t (lengths_of (mem rs e
         | no q ↦
             let here : x ≡ last = omega arith in
             let low = present_below_five h n (mem rs es) last (last_present s last_is) in
-            rw (here, ← r_is, ne_eqb r 1 n1, ne_eqb r 3 n3, ne_eqb r 5 (λ e. omega arith))
+            rw (here, ← r_is, other, ne_eqb r 5 (λ e. omega arith))
       ]
 
       split : all free (entries_needed h n t) 0 ≡ entries_are 0 es (last + 1) (needed - (last + 1))

@@ -22,7 +22,7 @@ use Rattle.rules.specs.State.{Mem, mem, entry_of, clear_of, lengths_of}
 use Rattle.rules.proofs.Present.{present_is, last_present, last_needed}
 use Rattle.rules.proofs.Lent.{present_rows}
 use Rattle.rules.proofs.Differs.{entries_differ_lem, bitfields_differ_lem}
-use Rattle.rules.specs.declared.Recovered.{Recovered}
+use Rattle.rules.specs.Numbered.{Recovered}
 use Rattle.rules.specs.Recover.{recovered, recoverable, entry_after, row_after, mended, entries_differ, bitfields_differ, recover_all}
 use Rattle.recover.specs.Mend.{entry_differs, rows_differ, mended_at}
 use Rattle.recover.proofs.Mends.{Its, its_huge}
@@ -112,10 +112,10 @@ module _ {h : ℕ} (m : Mem) {k : ℕ} where
 module _ {h n t : ℕ} (H : Huge h) (rs es : List ℕ) (s : Sized h n t (lengths_of (mem rs es))) {last : ℕ} (last_is : last ≡ huge_of h (n - 1)) where
   -- the entry and the rows of each are lent
   pub mend_asked : {rs' es' : List ℕ} {e b x : ℕ} → MendAt h (mem rs es) (last + 1) rs' es' e b x → x < last + 1
-      → (Huge h) × (x < length es') × ((x + 1) * rows_per h ≤ length rs')
+      → (x < length es') × ((x + 1) * rows_per h ≤ length rs')
   mend_asked {x = x} at l =
       let below : x * 2 ^ h ≤ last * 2 ^ h = mul-le-mul_right (2 ^ h) (omega arith) in
-      (H, rw at.entries_long (omega (arith, s.entries, last_needed s last_is)), rw at.rows_long (present_rows H s x (omega (arith, last_present s last_is))))
+      (rw at.entries_long (omega (arith, s.entries, last_needed s last_is)), rw at.rows_long (present_rows H s x (omega (arith, last_present s last_is))))
 
   -- past the last, all is recovered
   pub recovers : {is_blocked : Bool} → is_blocked ≡ not (recoverable h n t (mem rs es)) → is_blocked ≡ false

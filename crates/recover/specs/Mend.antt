@@ -4,7 +4,7 @@ use Rattle.base.specs.Walk.{pick, all, written}
 use Rattle.base.specs.Code.{Out, out}
 use Rattle.base.specs.Size.{rows_per}
 use Rattle.rules.specs.State.{Mem, with_rows, with_entry, entry_of}
-use Rattle.rules.specs.declared.Recovered.{Recovered}
+use Rattle.rules.specs.Numbered.{Recovered}
 use Rattle.rules.specs.Recover.{recovered, entry_after, row_after}
 
 -- whether the entry of huge frame x is another afterwards

@@ -6,66 +6,41 @@
 ghost use Rattle.std.specs.Prelude.{◌≤◌, IfOk};
 ghost use Rattle.dialogue.specs.Feeds.{Ready};
 
-use dialogue::{Reply, State};
+use dialogue::State;
+use lines::Answer;
+use shape::TreeSize;
 use std::io::{self, Read};
 
-// The prime of FNV-1a, 2^40 + 435.
+// The basis of FNV-1a.
+const BASIS: u64 = 0xcbf2_9ce4_8422_2325;
+
+// Its prime, 2^40 + 435.
 const PRIME: u64 = 0x100_0000_01b3;
 
-// FNV-1a: one byte more. The product wraps.
-fn mixed(digest: u64, byte: u64) -> u64 {
-    (digest ^ byte).wrapping_mul(PRIME)
+// FNV-1a: some bytes more. The product wraps.
+fn mixed(digest: u64, bytes: &[u8]) -> u64 {
+    bytes.iter().fold(digest, |d, byte| {
+        (d ^ u64::from(*byte)).wrapping_mul(PRIME)
+    })
 }
 
-// The digest with the k lowest bytes of a word, the lowest first.
-fn mixed_word(digest: u64, word: u64, k: usize) -> u64 {
-    let mut d = digest;
-    let mut w = word;
-    for _ in 0..k {
-        d = mixed(d, w % 256);
-        w /= 256;
-    }
-    d
-}
-
-fn mixed_entries(digest: u64, entries: &[u16]) -> u64 {
-    let mut d = digest;
-    for entry in entries {
-        d = mixed_word(d, wide(*entry), 2);
-    }
-    d
-}
-
-fn mixed_rows(digest: u64, rows: &[u64]) -> u64 {
-    let mut d = digest;
-    for row in rows {
-        d = mixed_word(d, *row, 8);
-    }
-    d
-}
-
-fn wide(entry: u16) -> u64 {
-    u64::from(entry)
-}
-
-// The number of rows or entries that are needed, of those there are.
-fn at_most(needed: usize, len: usize) -> usize
-    ensures { result ≤ len }
-{
-    if needed < len { needed } else { len }
-}
-
-// The digest of what N frames in trees of T need, which no call goes beyond.
+// The digest of what N frames in trees of T need, which no call goes beyond: the entries, and the rows.
 fn digest(n: usize, t: usize, rows: &[u64], entries: &[u16]) -> u64 {
-    let start: u64 = 0xcbf2_9ce4_8422_2325;
-    if n <= shape::FRAMES_MAX {
-        if shape::is_tree(t) {
-            let e = at_most(shape::entries_needed(base::HUGE_ORDER, n, t), entries.len());
-            let r = at_most(shape::rows_needed(base::HUGE_ORDER, n), rows.len());
-            return mixed_rows(mixed_entries(start, &entries[..e]), &rows[..r]);
-        }
+    let Some(size) = TreeSize::new(t) else {
+        return BASIS;
+    };
+    if n > shape::FRAMES_MAX {
+        return BASIS;
     }
-    start
+    let entries_needed = shape::entries_needed(base::HUGE_ORDER, n, size);
+    let rows_needed = shape::rows_needed(base::HUGE_ORDER, n);
+    let after_entries = entries
+        .iter()
+        .take(entries_needed)
+        .fold(BASIS, |d, entry| mixed(d, &entry.to_le_bytes()));
+    rows.iter()
+        .take(rows_needed)
+        .fold(after_entries, |d, row| mixed(d, &row.to_le_bytes()))
 }
 
 // Prints an answer, if there is one, for N frames in trees of T: the digest stands where its LF was.
@@ -75,16 +50,15 @@ fn print(
     t: usize,
     rows: &[u64],
     entries: &[u16],
-    reply: Reply,
+    reply: Option<Answer>,
 ) -> io::Result<()> {
     let mut text = [0u8; 105];
     let end = dialogue::print(&mut text, 0, reply);
-    if 0 < end {
+    if end > 0 {
         text[end - 1] = b' ';
         let last = decimal::write(&mut text, end, digest(n, t, rows, entries) as usize);
         text[last] = b'\n';
-        let all = last + 1;
-        rt.write_all(&text[..all])?;
+        rt.write_all(&text[..=last])?;
     }
     Ok(())
 }
@@ -102,14 +76,12 @@ fn serve(
     ensures { IfOk result (λ left. left.kept ≤ 65) }
 {
     let mut now = state;
-    let mut used = 0;
-    while used < input.len() {
-        let fed = dialogue::feed(now, &input[used..], line, rows, entries);
-        let after = fed.state;
-        let reply = fed.reply;
-        print(rt, after.n, after.t, rows, entries, reply)?;
-        now = after;
-        used += fed.used;
+    let mut rest = input;
+    while !rest.is_empty() {
+        let fed = dialogue::feed(now, rest, line, rows, entries);
+        now = fed.state;
+        print(rt, now.n, now.t, rows, entries, fed.reply)?;
+        rest = &rest[fed.used..];
     }
     Ok(now)
 }

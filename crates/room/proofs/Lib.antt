@@ -1,1 +1,2 @@
+pub mod Ranges
 pub mod Rooms

@@ -3,7 +3,7 @@ use mathlib.Core.Path.{◌≡◌, ap, ◌∙◌}
 use mathlib.Core.Bool.{true}
 use mathlib.Core.List.{List}
 use Prim.Native.Nat.{ℕ, ◌+◌, ◌-◌, ◌*◌, ◌/◌, ◌^◌, ◌≤◌, ◌<◌}
-use native.Mathlib.Nat.{mul-le-mul_right, mul-div_cancel}
+use native.Mathlib.Nat.{mul-div_cancel}
 use native.Mathlib.Omega.{arith}
 use lib.ListN.{length, replicate, length-replicate}
 use lib.Pow.{pow_pos}
@@ -14,12 +14,6 @@ use Rattle.rules.specs.Numbers.{tree_at, tree_log, is_tree, top_order}
 use Rattle.rules.proofs.Numbers.{tree_pow}
 use Rattle.rules.specs.State.{entries_are, blocks_in}
 use Rattle.rules.specs.Room.{room_at, orders, room_of}
-
--- ---- groups
-
--- a group before the c-th ends among the entries of c groups
-pub group_lent : (at g c el first j : ℕ) → at + c * g ≤ el → j < c → first ≡ at + j * g → first + g ≤ el
-group_lent at g c el first j l h e = omega (arith, mul-le-mul_right g h)
 
 -- ---- an order
 

@@ -6,8 +6,10 @@ use Rattle.base.specs.Walk.{pick, first}
 use Rattle.base.specs.Bits.{bits_at}
 use Rattle.base.proofs.Walks.{first_hit, first_le, first_before}
 use Rattle.base.proofs.Sizes.{pow_divides}
+use Rattle.std.specs.Prelude.{Result, Ok, Err}
+use Rattle.base.specs.declared.Refusal.{Refusal}
+use Rattle.base.specs.declared.Refusal.TheVariants.{Frames, Tree, Lent, Order, Range, Alignment, Memory, Damage}
 use Rattle.row.specs.declared.Found.{Found}
-use Rattle.row.specs.declared.Found.TheVariants.{At, Full, BadOrder}
 use Rattle.row.specs.Row.{Numbers, numbers_of, lowest}
 use Rattle.row.specs.Ensured.{FindsInRow}
 
@@ -55,17 +57,31 @@ module _ (o v : ℕ) where
 
 -- ---- the answer
 
+-- the refusal that has this number
+refusal_of : ℕ → Refusal
+refusal_of c =
+    pick (eqb c 1) Frames
+    (pick (eqb c 2) Tree
+    (pick (eqb c 3) Lent
+    (pick (eqb c 4) Order (pick (eqb c 5) Range (pick (eqb c 6) Alignment (pick (eqb c 7) Memory Damage))))))
+
 -- the answer that has these numbers
-answer_of : Numbers → Found
-answer_of x = pick (eqb x.code 0) (At x.place x.row) (pick (eqb x.code 7) Full BadOrder)
+answer_of : Numbers → Result Found Refusal
+answer_of x = pick (eqb x.code 0) (Ok (record { place = x.place; row = x.row })) (Err (refusal_of x.code))
 
 -- an answer's numbers give it back
-answer_of_lem : (f : Found) → answer_of (numbers_of f) ≡ f
-unfolding answer_of
-answer_of_lem (At p r) = refl
-answer_of_lem Full = refl
-answer_of_lem BadOrder = refl
+answer_of_lem : (r : Result Found Refusal) → answer_of (numbers_of r) ≡ r
+unfolding answer_of refusal_of
+answer_of_lem (Ok f) = refl
+answer_of_lem (Err Frames) = refl
+answer_of_lem (Err Tree) = refl
+answer_of_lem (Err Lent) = refl
+answer_of_lem (Err Order) = refl
+answer_of_lem (Err Range) = refl
+answer_of_lem (Err Alignment) = refl
+answer_of_lem (Err Memory) = refl
+answer_of_lem (Err Damage) = refl
 
 -- the contract leaves one answer
-pub one_answer : (f g : Found) (v o : ℕ) → FindsInRow v o f → FindsInRow v o g → f ≡ g
+pub one_answer : (f g : Result Found Refusal) (v o : ℕ) → FindsInRow v o f → FindsInRow v o g → f ≡ g
 one_answer f g v o e h = sym (answer_of_lem f) ∙ ap answer_of (e ∙ sym h) ∙ answer_of_lem g

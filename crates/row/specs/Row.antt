@@ -1,9 +1,10 @@
 -- Document 01, "Get": "in a row the lowest free aligned place", with the refusals of "Refusal numbers" for the one-row search.
-use Rattle.std.specs.Prelude.{ℕ, zero, suc, ◌+◌, ◌-◌, ◌*◌, ◌^◌, true, nat_eq, nat_le, nat_lt}
+use Rattle.std.specs.Prelude.{Result, Ok, Err, ℕ, zero, suc, ◌+◌, ◌-◌, ◌*◌, ◌^◌, true, nat_eq, nat_le, nat_lt}
 use Rattle.base.specs.Walk.{pick, first}
 use Rattle.base.specs.Bits.{bits_at, overlay}
+use Rattle.base.specs.declared.Refusal.{Refusal}
+use Rattle.base.specs.Refused.{number_of}
 use Rattle.row.specs.declared.Found.{Found}
-use Rattle.row.specs.declared.Found.TheVariants.{At, Full, BadOrder}
 
 -- the lowest place aligned at order o whose 2 ^ o bits are all clear; 64 where there is none
 unfoldable pub lowest : ℕ → ℕ → ℕ
@@ -27,11 +28,10 @@ first_zeros v o =
     (pick (nat_lt (lowest o v) 64) (numbers 0 (lowest o v) (overlay true v (lowest o v) (lowest o v + 2 ^ o))) (numbers 7 0 0))
     (numbers 4 0 0)
 
--- the number and the values of each case of the answer
-abbrev pub numbers_of : Found → Numbers
-numbers_of (At p r) = numbers 0 p r
-numbers_of Full = numbers 7 0 0
-numbers_of BadOrder = numbers 4 0 0
+-- the number and the values of an answer
+abbrev pub numbers_of : Result Found Refusal → Numbers
+numbers_of (Ok f) = numbers 0 f.place f.row
+numbers_of (Err e) = numbers (number_of e) 0 0
 
 -- the lowest bit of each of n lanes of w bits: what the wrapping subtraction takes off
 unfoldable pub units : ℕ → ℕ → ℕ

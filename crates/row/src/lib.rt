@@ -5,29 +5,28 @@ ghost use Rattle.std.specs.Prelude.{◌≡◌, ℕ, ◌+◌, ◌-◌, ◌*◌, �
 ghost use Rattle.row.specs.Row.{lowest, units};
 ghost use Rattle.row.specs.Ensured.{FindsInRow};
 
-// The answer of a search in one row.
+use base::Refusal;
+
+// A clear block of a row.
 #[derive(Clone, Copy)]
-pub enum Found {
-    // The place of the block, and the row with the block's bits set.
-    At(usize, u64),
-    // No block of the order is clear.
-    Full,
-    // The order is above 6.
-    BadOrder,
+pub struct Found {
+    pub place: usize,
+    // The row with the block's bits set.
+    pub row: u64,
 }
 
 // The lowest clear bit, 64 where there is none: the trailing ones of v.
 fn clear_bit(v: u64) -> u32
     ensures { result ≡ lowest 0 v }
 {
-    u64::trailing_zeros(!v)
+    (!v).trailing_zeros()
 }
 
 // The lowest clear pair of bits at an even place.
 fn clear_pair(v: u64) -> u32
     ensures { result ≡ lowest 1 v }
 {
-    u64::trailing_zeros(!((v | (v >> 1)) | 0xaaaa_aaaa_aaaa_aaaa))
+    (!(v | (v >> 1) | 0xaaaa_aaaa_aaaa_aaaa)).trailing_zeros()
 }
 
 // The lowest clear lane of top + 1 bits. mask has the lowest bit of each lane, and the subtraction wraps on purpose:
@@ -36,11 +35,11 @@ fn clear_lane(v: u64, mask: u64, top: u32) -> u32
     requires { (top < 64) × ((n : ℕ) × (mask ≡ units (top + 1) n) × (n * (top + 1) ≡ 64)) }
     ensures { (o : ℕ) → o ≤ 6 → 2 ^ o ≡ top + 1 → result ≡ lowest o v }
 {
-    let below = std::num::wrapping_sub_u64(v, mask);
-    u64::trailing_zeros(((below & !v) >> top) & mask)
+    let below = v.wrapping_sub(mask);
+    (((below & !v) >> top) & mask).trailing_zeros()
 }
 
-// The lowest clear nibble, byte and half word.
+// The lowest clear nibble, byte and half word: one routine, under a name for each width.
 fn clear_nibble(v: u64) -> u32
     ensures { result ≡ lowest 2 v }
 {
@@ -64,9 +63,12 @@ fn clear_half(v: u64) -> u32
     ensures { result ≡ lowest 5 v }
 {
     if v % 0x1_0000_0000 == 0 {
-        return 0;
+        0
+    } else if v >> 32 == 0 {
+        32
+    } else {
+        64
     }
-    if v >> 32 == 0 { 32 } else { 64 }
 }
 
 // The whole row, if it is clear.
@@ -76,7 +78,8 @@ fn clear_row(v: u64) -> u32
     if v == 0 { 0 } else { 64 }
 }
 
-// The lowest place aligned at an order whose block is clear; 64 where there is none. A search over rows wants no more of each.
+// The lowest place aligned at an order whose block is clear; 64 where there is none, as trailing zeros of 0 are. It is no Option,
+// since a search over rows compares it at once. Each order has its own routine, by a match.
 pub fn lowest_clear(v: u64, order: usize) -> u32
     requires { order ≤ 6 }
     ensures { result ≡ lowest order v }
@@ -93,18 +96,21 @@ pub fn lowest_clear(v: u64, order: usize) -> u32
 }
 
 // The answer for the lowest clear place of a block whose bits are `ones`, where it stands at place 0.
-fn taken(v: u64, place: u32, ones: u64) -> Found
+fn taken(v: u64, place: u32, ones: u64) -> Result<Found, Refusal>
     ensures { (o : ℕ) → o ≤ 6 → ones ≡ 2 ^ 2 ^ o - 1 → place ≡ lowest o v → FindsInRow v o result }
 {
     if place < 64 {
-        Found::At(place as usize, v | (ones << place))
+        Ok(Found {
+            place: place as usize,
+            row: v | (ones << place),
+        })
     } else {
-        Found::Full
+        Err(Refusal::Memory)
     }
 }
 
 // The answer at order 5, half by half: a branch for each, since rows are mostly held in both halves or clear in one.
-fn taken_half(v: u64) -> Found
+fn taken_half(v: u64) -> Result<Found, Refusal>
     ensures { FindsInRow v 5 result }
 {
     if v % 0x1_0000_0000 == 0 {
@@ -113,11 +119,11 @@ fn taken_half(v: u64) -> Found
     if v >> 32 == 0 {
         return taken(v, 32, 0xffff_ffff);
     }
-    Found::Full
+    Err(Refusal::Memory)
 }
 
-// The lowest clear block of 2^order bits of a row, and the row with the block set.
-pub fn first_zeros_aligned(v: u64, order: usize) -> Found
+// The lowest clear block of 2^order bits of a row, and the row with the block set. Each order has its own routine, by a match.
+pub fn first_zeros_aligned(v: u64, order: usize) -> Result<Found, Refusal>
     ensures { FindsInRow v order result }
 {
     match order {
@@ -128,6 +134,6 @@ pub fn first_zeros_aligned(v: u64, order: usize) -> Found
         4 => taken(v, clear_half_word(v), 0xffff),
         5 => taken_half(v),
         6 => taken(v, clear_row(v), u64::MAX),
-        _ => Found::BadOrder,
+        _ => Err(Refusal::Order),
     }
 }

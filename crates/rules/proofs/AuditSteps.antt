@@ -9,7 +9,7 @@ use borrow.Author.Tests.{eq-eqb, ne_eqb, eqb-true, eqb-false, lt-ltb, le-ltb, no
 use Rattle.base.proofs.Walks.{FirstAt, first_start, first_found, first_more, first_none, first_hit, first_before, first_never}
 use Rattle.rules.specs.Numbers.{entries_needed}
 use Rattle.rules.specs.State.{Mem}
-use Rattle.rules.specs.declared.Fault.{Fault}
+use Rattle.rules.specs.Numbered.{Fault}
 use Rattle.rules.specs.Audit.{fault, reason, faultless, audit_all}
 
 -- whether huge frame x is faulty

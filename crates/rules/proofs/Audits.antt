@@ -20,7 +20,7 @@ use Rattle.rules.proofs.Numbers.{tree_pos, tree_ends}
 use Rattle.rules.proofs.Lent.{sized, sized_passes}
 use Rattle.rules.proofs.Present.{present_entry}
 use Rattle.rules.proofs.Needed.{tree_needed}
-use Rattle.rules.specs.declared.Fault.{Fault}
+use Rattle.rules.specs.Numbered.{Fault}
 use Rattle.rules.specs.Audit.{fault, reason, faultless, audit_all, audit}
 use Rattle.rules.proofs.Reasons.{reason_clean_absent, reason_absent_clean, reason_clean_marked, reason_marked_clean, reason_clean_counted, reason_counted_clean}
 use Rattle.rules.proofs.AuditSteps.{audit_named, named_faulty, none_before, audit_none, audit_clean_each, audit_each_clean}

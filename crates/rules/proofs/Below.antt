@@ -45,8 +45,8 @@ module _ {h n t : ℕ} {len : Lengths} {f o : ℕ} (H : Huge h) (low : o < h) (b
   entry_lent e = rw e (block_entry H b)
 
   -- it may be turned
-  pub turn_asked : (Huge h) × (o ≤ h) × (f < 1048576) × (f % 2 ^ o ≡ 0) × ((f / 2 ^ h + 1) * rows_per h ≤ len.rows)
-  turn_asked = (H, order_low, frame_low, b.aligned, block_row H b)
+  pub turn_asked : (o ≤ h) × (f < 1048576) × (f % 2 ^ o ≡ 0) × ((f / 2 ^ h + 1) * rows_per h ≤ len.rows)
+  turn_asked = (order_low, frame_low, b.aligned, block_row H b)
 
   -- its huge frame's frames are those of lent rows
   frames_lent : f / 2 ^ h * 2 ^ h + 2 ^ h ≤ len.rows * 64
@@ -65,9 +65,8 @@ module _ {h n t : ℕ} {len : Lengths} {f o : ℕ} (H : Huge h) (low : o < h) (b
     first_low = omega (arith, div-add-mod' f (2 ^ h))
 
     -- the whole huge frame may be turned too
-    pub whole_asked : (Huge h) × (h ≤ h) × (g < 1048576) × (g % 2 ^ h ≡ 0) × ((g / 2 ^ h + 1) * rows_per h ≤ len.rows)
+    pub whole_asked : (h ≤ h) × (g < 1048576) × (g % 2 ^ h ≡ 0) × ((g / 2 ^ h + 1) * rows_per h ≤ len.rows)
     whole_asked = (
-      H,
       omega arith,
       omega (arith, frame_low, first_low),
       rw g_is (mul-mod_left (f / 2 ^ h) (2 ^ h)),

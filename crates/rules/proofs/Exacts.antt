@@ -13,7 +13,7 @@ use Rattle.base.specs.Code.{Out, out, unless}
 use Rattle.base.specs.Size.{Huge}
 use Rattle.base.proofs.Codes.{done}
 use Rattle.bitfield_rules.specs.Calls.{answered}
-use Rattle.rules.specs.declared.Got.{Got}
+use Rattle.rules.specs.Numbered.{Got}
 use Rattle.rules.specs.Numbers.{mark, huge_of, tree_of, group_of}
 use Rattle.rules.specs.State.{Mem, on_entries, entries_are}
 use Rattle.rules.specs.Refusals.{block_refusal, start_refusal}

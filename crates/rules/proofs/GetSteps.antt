@@ -20,8 +20,8 @@ use Rattle.rules.specs.State.{Mem, mem, entry_of, Lengths}
 use Rattle.rules.specs.Get.{got, visit, stops, entry_at, visits_passed, ended, get_small}
 use Rattle.rules.proofs.Numbers.{huge_of_row, tree_pow, tree_pos, tree_high}
 use Rattle.rules.proofs.Lent.{start_tree}
-use Rattle.rules.specs.declared.Visit.{Visit}
-use Rattle.rules.specs.declared.Visit.TheVariants.{Place}
+use Rattle.rules.specs.Numbered.{Visit}
+use Rattle.rules.specs.Numbered.{Place}
 use Rattle.rules.proofs.VisitSteps.{Free}
 
 -- ---- the entries of a tree, from entry x on, wrapping

@@ -13,15 +13,15 @@ use Rattle.base.specs.Code.{Out, out}
 use Rattle.base.specs.Size.{Huge, rows_per}
 use Rattle.base.proofs.Rests.{digits_less}
 use Rattle.base.proofs.Walks.{first_hit, first_before}
-use Rattle.rules.specs.declared.Got.{Got}
+use Rattle.rules.specs.Numbered.{Got}
 use Rattle.rules.specs.Numbers.{huge_of, tree_of, entries_needed, group_of, block_at}
 use Rattle.rules.specs.State.{Mem}
 use Rattle.rules.specs.Refusals.{start_refusal}
 use Rattle.rules.specs.Get.{got, taken, visit, stops, entry_at, visits_passed, ended, get_small, get}
 use Rattle.rules.proofs.Numbers.{tree_pos, tree_of_huge, tree_by_rows}
 use Rattle.rules.proofs.Lent.{started, started_exactly}
-use Rattle.rules.specs.declared.Visit.{Visit}
-use Rattle.rules.specs.declared.Visit.TheVariants.{Pass, Damage, Place}
+use Rattle.rules.specs.Numbered.{Visit}
+use Rattle.rules.specs.Numbered.{Pass, Damage, Place}
 use Rattle.rules.proofs.GetSteps.{entry_lent, stops_at}
 use Rattle.rules.specs.Consistent.{ConsistentIn, free}
 use Rattle.rules.specs.Exact.{steps_to, round, rank, Candidate, Missed, First}

@@ -9,7 +9,7 @@ use Rattle.base.specs.Code.{out}
 use Rattle.base.specs.Size.{rows_per}
 use Rattle.rules.specs.Numbers.{mark, group_of}
 use Rattle.rules.specs.Get.{got, group_at, groups_passed, take_group, get_huge, get_huge_at}
-use Rattle.rules.specs.declared.Got.{Got}
+use Rattle.rules.specs.Numbered.{Got}
 use Rattle.rules.specs.State.{entries_are}
 use Rattle.rules.specs.Put.{put_huge}
 use Rattle.rules.specs.Queries.{is_free_huge}

@@ -16,7 +16,7 @@ use Rattle.base.proofs.Codes.{holds}
 use Rattle.base.proofs.Sizes.{frames_fit}
 use Rattle.base.proofs.Walks.{all_each, all_of, count_full, count_of, pick_of}
 use Rattle.rules.specs.Numbers.{mark, huge_of, tree_of, group_of}
-use Rattle.rules.specs.declared.Got.{Got}
+use Rattle.rules.specs.Numbered.{Got}
 use Rattle.rules.specs.Refusals.{Blocked}
 use Rattle.rules.specs.State.{Mem, entry_of, entries_are, lengths_of, with_entries}
 use Rattle.rules.specs.Get.{got, get_huge_at}

@@ -14,7 +14,7 @@ use Rattle.base.specs.Code.{Out, out}
 use Rattle.base.specs.Size.{Huge, rows_per}
 use Rattle.base.proofs.Tests.{both}
 use Rattle.base.proofs.Walks.{all_each, first_hit, first_before}
-use Rattle.rules.specs.declared.Got.{Got}
+use Rattle.rules.specs.Numbered.{Got}
 use Rattle.rules.specs.Numbers.{mark, huge_of, tree_of, tree_log, entries_needed, group_of}
 use Rattle.rules.specs.State.{Mem, entry_of, on_entries, entries_are, with_entries}
 use Rattle.rules.specs.Refusals.{start_refusal}

@@ -13,15 +13,15 @@ use Rattle.base.specs.Size.{rows_per}
 use Rattle.base.specs.Bits.{block_is, with_bits}
 use Rattle.base.proofs.Tests.{both}
 use Rattle.base.proofs.Walks.{pick_case}
-use Rattle.rules.specs.declared.Got.{Got}
+use Rattle.rules.specs.Numbered.{Got}
 use Rattle.rules.specs.Numbers.{mark, huge_of, group_of}
 use Rattle.rules.specs.State.{Mem, on_entries, entry_of, free_of, entries_are, with_rows, with_entries, with_entry}
 use Rattle.rules.specs.Refusals.{sizes_refusal, block_refusal, start_refusal}
 use Rattle.rules.specs.Get.{group_at, groups_passed, take_group, get_huge, get_huge_at, taken, visit, entry_at, visits_passed, ended, get_small, get_small_at, get, get_at}
 use Rattle.rules.specs.Put.{put_huge, put_marked, put_counted, put_small, put}
-use Rattle.rules.specs.declared.Visit.{Visit}
-use Rattle.rules.specs.declared.Visit.TheVariants.{Pass, Damage, Place}
-use Rattle.rules.specs.declared.Recovered.{Recovered}
+use Rattle.rules.specs.Numbered.{Visit}
+use Rattle.rules.specs.Numbered.{Pass, Damage, Place}
+use Rattle.rules.specs.Numbered.{Recovered}
 use Rattle.rules.specs.Recover.{recoverable, mended, recover_all, recover}
 use Rattle.rules.specs.Call.{RowCall, BlockCall, FrameCall, AllCall, Call, got_numbers, called, left}
 use Rattle.rules.specs.Marks.{remarked}

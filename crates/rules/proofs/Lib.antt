@@ -1,3 +1,4 @@
+pub mod Answers
 pub mod AuditSteps
 pub mod Reasons
 pub mod ClearBits

@@ -22,8 +22,8 @@ use Rattle.rules.specs.Numbers.{mark, huge_of, whole, entries_needed, group_of}
 use Rattle.rules.specs.Refusals.{Sized, Blocked, sizes_refusal}
 use Rattle.rules.specs.State.{Mem, Lengths, entry_of, free_of, lengths_of, with_entries}
 use Rattle.rules.specs.Get.{taken, group_at, visit, entry_at}
-use Rattle.rules.specs.declared.Visit.{Visit}
-use Rattle.rules.specs.declared.Visit.TheVariants.{Place}
+use Rattle.rules.specs.Numbered.{Visit}
+use Rattle.rules.specs.Numbered.{Place}
 use Rattle.rules.specs.Recover.{mended}
 use Rattle.rules.specs.Starts as starts
 use Rattle.rules.specs.Starts.{free_entry, held_entry, free_all, reserve_all}

@@ -17,7 +17,7 @@ use Rattle.base.proofs.Tests.{not_both, not_either, both}
 use Rattle.base.proofs.Walks.{all_each}
 use Rattle.rules.specs.Numbers.{huge_of}
 use Rattle.rules.specs.State.{Mem}
-use Rattle.rules.specs.declared.Recovered.{Recovered}
+use Rattle.rules.specs.Numbered.{Recovered}
 use Rattle.rules.specs.Call.{RowCall, BlockCall, FrameCall, AllCall, Call, called, left}
 use Rattle.rules.specs.Consistent.{Consistent, free, held, in_block}
 use Rattle.rules.specs.Marks.{meets, remarked}

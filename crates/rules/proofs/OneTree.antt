@@ -14,7 +14,7 @@ use Rattle.base.specs.Size.{rows_per}
 use Rattle.base.proofs.Walks.{pick_both}
 use Rattle.base.proofs.Codes.{none_of, answer_alike}
 use Rattle.bitfield_rules.specs.Calls.{answered}
-use Rattle.rules.specs.declared.Got.{Got}
+use Rattle.rules.specs.Numbered.{Got}
 use Rattle.rules.specs.Numbers.{huge_of, tree_of, group_of}
 use Rattle.rules.specs.Refusals.{Blocked, sizes_refusal, block_refusal, start_refusal, frame_refusal}
 use Rattle.rules.specs.State.{Mem, lengths_of}
@@ -23,9 +23,9 @@ use Rattle.rules.specs.Queries.{statistics, is_free, stats_at}
 use Rattle.rules.proofs.Numbers.{tree_of_huge, tree_by_rows}
 use Rattle.rules.proofs.Lent.{sized, sized_passes, blocked, started, framed, block_entries}
 use Rattle.rules.proofs.GroupSteps.{group_in_tree}
-use Rattle.bitfield_rules.specs.declared.Answered.{Answered}
+use Rattle.bitfield_rules.specs.Calls.{Answered}
 use Rattle.rules.specs.Put.{put}
-use Rattle.rules.specs.declared.Why.{Why}
+use Rattle.rules.specs.Numbered.{Why}
 use Rattle.rules.specs.Why.{why, sound, told, why_get, why_get_at, why_put}
 use Rattle.rules.specs.Room.{orders, room, tree_run}
 use Rattle.rules.specs.Call.{RowCall, BlockCall, FrameCall, AllCall, Call, stats_numbers, got_numbers, why_numbers, called}

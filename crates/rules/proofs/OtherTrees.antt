@@ -23,7 +23,7 @@ use Rattle.rules.proofs.Present.{block_within}
 use Rattle.rules.proofs.Lent.{blocked, started}
 use Rattle.rules.specs.Get.{group_at, taken, visit, entry_at}
 use Rattle.rules.proofs.GroupSteps.{group_in_tree, Tree, group_ends, start_groups}
-use Rattle.rules.specs.declared.Visit.TheVariants.{Place}
+use Rattle.rules.specs.Numbered.{Place}
 use Rattle.rules.proofs.VisitSteps.{visit_free}
 use Rattle.rules.specs.Call.{Call, left}
 use Rattle.rules.specs.OneTree.{Agree, On}

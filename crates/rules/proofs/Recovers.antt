@@ -27,7 +27,7 @@ use Rattle.rules.proofs.Lent.{sized, sized_passes}
 use Rattle.rules.proofs.Present.{present_entry, low_present, row_present, row_within, huge_is}
 use Rattle.rules.specs.Audit.{reason}
 use Rattle.rules.proofs.Reasons.{reason_absent, reason_marked, reason_counted}
-use Rattle.rules.specs.declared.Recovered.{Recovered}
+use Rattle.rules.specs.Numbered.{Recovered}
 use Rattle.rules.specs.Recover.{recovered, blocks_recovery, recoverable, entry_after, row_after, mended, entries_differ, bitfields_differ, differing, recover_all, recover}
 use Rattle.rules.proofs.Mended.{rows_beyond, entries_beyond, mended_sized, mended_mark, mended_count, mended_row, mended_clear, mended_same}
 use Rattle.rules.specs.Consistent.{Fits, ByMark, ByCount, Consistent, free}

@@ -14,23 +14,23 @@ use Rattle.base.proofs.Walks.{pick_case, pick_of, pick_both}
 use Rattle.base.proofs.Tests.{not_leb, not_ltb, not_both}
 use Rattle.base.proofs.Codes.{stops, regrouped, or_none}
 use Rattle.base.proofs.Stored.{if_refused}
-use Rattle.rules.specs.declared.Got.{Got}
-use Rattle.rules.specs.declared.Stats.{Stats}
+use Rattle.rules.specs.Numbered.{Got}
+use Rattle.rules.specs.Numbered.{Stats}
 use Rattle.rules.specs.Numbers.{mark, huge_of, tree_of, is_tree, top_order, group_of, aligned, rows_needed, entries_needed}
 use Rattle.rules.specs.Refusals.{frames_code, tree_code, sizes_refusal, block_refusal, start_refusal, frame_refusal}
 use Rattle.rules.specs.State.{Mem, entry_of}
 use Rattle.rules.specs.Starts as starts
 use Rattle.rules.specs.Queries.{stats_all, at_order, is_free, stats, stats_at}
-use Rattle.bitfield_rules.specs.declared.Answered.{Answered}
+use Rattle.bitfield_rules.specs.Calls.{Answered}
 use Rattle.rules.specs.Starts.{free_all, reserve_all}
 use Rattle.rules.specs.Put.{put}
 use Rattle.rules.specs.Get.{get, get_at}
-use Rattle.rules.specs.declared.Fault.{Fault}
+use Rattle.rules.specs.Numbered.{Fault}
 use Rattle.rules.specs.Audit.{faultless, audit_all, audit}
-use Rattle.rules.specs.declared.Recovered.{Recovered}
+use Rattle.rules.specs.Numbered.{Recovered}
 use Rattle.rules.specs.Recover.{recoverable, recover_all, recover}
 use Rattle.rules.specs.Room.{room, tree_run}
-use Rattle.rules.specs.declared.Why.{Why}
+use Rattle.rules.specs.Numbered.{Why}
 use Rattle.rules.specs.Consistent.{free, held}
 use Rattle.rules.specs.Why.{why, sound, told, get_reason, get_at_reason, put_reason, why_get, why_get_at, why_put}
 use Rattle.rules.specs.Call.{RowCall, BlockCall, FrameCall, AllCall, Call, got_numbers, stats_numbers, why_numbers, called, code, left}

@@ -13,7 +13,7 @@ use Rattle.base.specs.Code.{unless}
 use Rattle.base.specs.Size.{Huge}
 use Rattle.base.proofs.Tests.{both}
 use Rattle.base.proofs.Walks.{all_each, all_of}
-use Rattle.rules.specs.declared.Got.{Got}
+use Rattle.rules.specs.Numbered.{Got}
 use Rattle.rules.specs.Numbers.{mark, huge_of, tree_of, group_of}
 use Rattle.rules.specs.State.{Mem, entry_of, entries_are}
 use Rattle.rules.specs.Refusals.{start_refusal}

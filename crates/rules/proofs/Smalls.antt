@@ -17,7 +17,7 @@ use Rattle.base.specs.Bits.{bit_is, block_is, with_bits}
 use Rattle.base.specs.Size.{Huge}
 use Rattle.base.proofs.Walks.{either, count_le, count_full}
 use Rattle.base.proofs.Frames.{bit_written, bit_kept, zeros_block, block_of}
-use Rattle.rules.specs.declared.Got.{Got}
+use Rattle.rules.specs.Numbered.{Got}
 use Rattle.rules.specs.Numbers.{mark, huge_of, tree_of}
 use Rattle.rules.specs.Refusals.{Blocked}
 use Rattle.rules.specs.State.{Mem, entry_of, clear_of, lengths_of, with_rows, with_entry}

@@ -12,9 +12,9 @@ use Rattle.base.specs.Code.{Out}
 use Rattle.base.specs.Size.{Huge, rows_per}
 use Rattle.base.specs.Bits.{block_is}
 use Rattle.base.proofs.Walks.{pick_case}
-use Rattle.rules.specs.declared.Got.{Got}
-use Rattle.rules.specs.declared.Visit.{Visit}
-use Rattle.rules.specs.declared.Visit.TheVariants.{Pass, Damage, Place}
+use Rattle.rules.specs.Numbered.{Got}
+use Rattle.rules.specs.Numbered.{Visit}
+use Rattle.rules.specs.Numbered.{Pass, Damage, Place}
 use Rattle.rules.specs.Numbers.{mark, huge_of, group_of}
 use Rattle.rules.specs.State.{Mem, on_entries, lengths_of, entry_of, free_of, entries_are}
 use Rattle.rules.specs.Refusals.{Sized, block_refusal, start_refusal}

@@ -14,15 +14,15 @@ use Rattle.base.specs.Size.{Huge, rows_per}
 use Rattle.base.specs.Bits.{block_is}
 use Rattle.base.proofs.Walks.{first_same, first_hit, pick_case, pick_of}
 use Rattle.base.proofs.Tests.{not_leb, not_ltb, not_both}
-use Rattle.rules.specs.declared.Got.{Got}
-use Rattle.rules.specs.declared.Recovered.{Recovered}
+use Rattle.rules.specs.Numbered.{Got}
+use Rattle.rules.specs.Numbered.{Recovered}
 use Rattle.rules.specs.Numbers.{mark, huge_of, group_of}
 use Rattle.rules.specs.State.{Mem, on_entries, entry_of, free_of, entries_are}
 use Rattle.rules.specs.Refusals.{sizes_refusal, block_refusal, start_refusal}
 use Rattle.rules.specs.Get.{got, stops, entry_at, visits_passed, ended, groups_passed, take_group, get_small, get_huge, get_small_at, get_huge_at, get, get_at}
 use Rattle.rules.specs.Recover.{recovered, recoverable, recover_all, recover}
 use Rattle.rules.specs.Put.{put_marked, put_counted, put_small, put_huge}
-use Rattle.rules.specs.declared.Visit.TheVariants.{Pass, Damage, Place}
+use Rattle.rules.specs.Numbered.{Pass, Damage, Place}
 use Rattle.rules.specs.Call.{BlockCall, Call}
 use Rattle.rules.specs.Steps.{goes_on, block, damaged, visit_at, get_steps, steps}
 use Rattle.rules.proofs.Lent.{started, sized_passes}

@@ -9,6 +9,7 @@ use Rattle.rules.specs.OneTree.{OneTree}
 use Rattle.rules.specs.Marks.{MarksMove}
 use Rattle.rules.specs.Same.{StateIsDetermined, BeyondUnread}
 use Rattle.rules.specs.Runs.{LedgerIsState, BorrowedAndReturned, NeverShared}
+use Rattle.rules.specs.Answers.{NumbersTell}
 use Rattle.rules.specs.Results.{EqualResults, TableHolds}
 use Rattle.rules.specs.Whys.{WhysTell}
 use Rattle.rules.proofs.Starts.{free_all_is_consistent, reserve_all_is_consistent}
@@ -26,6 +27,7 @@ use Rattle.rules.proofs.FreeCounts.{stats_is_exact}
 use Rattle.rules.proofs.Exacts.{calls_are_exact}
 use Rattle.rules.proofs.OwnBlock.{own_block_taken}
 use Rattle.rules.proofs.OneTree.{tree_alone}
+use Rattle.rules.proofs.Answers.{numbers_told}
 use Rattle.rules.proofs.Results.{results_equal, table_right}
 use Rattle.rules.proofs.Whys.{whys_told}
 
@@ -91,6 +93,9 @@ one_tree = tree_alone
 
 pub equal_results : EqualResults
 equal_results = results_equal
+
+pub numbers_tell : NumbersTell
+numbers_tell = numbers_told
 
 pub table_holds : TableHolds
 table_holds = table_right

@@ -18,8 +18,8 @@ use Rattle.rules.specs.State.{Mem, entry_of, free_of}
 use Rattle.rules.specs.Get.{got, searched, visit, stops, entry_at, visits_passed, ended, get_small, get_small_at}
 use Rattle.rules.proofs.Numbers.{tree_pos}
 use Rattle.rules.proofs.Present.{block_within}
-use Rattle.rules.specs.declared.Visit.{Visit}
-use Rattle.rules.specs.declared.Visit.TheVariants.{Pass, Damage, Place}
+use Rattle.rules.specs.Numbered.{Visit}
+use Rattle.rules.specs.Numbered.{Pass, Damage, Place}
 use Rattle.rules.specs.Put.{put_marked, put_counted, put_small}
 use Rattle.rules.specs.Queries.{is_free_small}
 use Rattle.rules.proofs.VisitSteps.{visit_free}

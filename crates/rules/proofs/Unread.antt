@@ -26,8 +26,8 @@ use Rattle.rules.specs.Audit.{fault, reason, faultless, audit_all, audit}
 use Rattle.rules.specs.Recover.{recovered, blocks_recovery, recoverable, entry_after, row_after, mended, differing, recover_all, recover}
 use Rattle.rules.specs.Starts as starts
 use Rattle.rules.specs.Starts.{rows_from, free_entry, held_entry, free_all, reserve_all}
-use Rattle.rules.specs.declared.Fault.{Fault}
-use Rattle.rules.specs.declared.Recovered.{Recovered}
+use Rattle.rules.specs.Numbered.{Fault}
+use Rattle.rules.specs.Numbered.{Recovered}
 use Rattle.rules.specs.Call.{AllCall, Call, stats_numbers, called, left}
 use Rattle.rules.specs.Keeps.{number_of, tested, own, fields}
 use Rattle.rules.specs.OneTree.{Agree, On}

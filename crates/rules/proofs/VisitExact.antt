@@ -23,7 +23,7 @@ use Rattle.rules.specs.Numbers.{mark, block_at}
 use Rattle.rules.specs.State.{Mem, entry_of, free_of, rows_of}
 use Rattle.rules.specs.Refusals.{sizes_refusal}
 use Rattle.rules.proofs.Lent.{sized, present_rows}
-use Rattle.rules.specs.declared.Visit.TheVariants.{Pass, Damage, Place}
+use Rattle.rules.specs.Numbered.{Pass, Damage, Place}
 use Rattle.rules.specs.Get.{visit, searched}
 use Rattle.rules.specs.Steps.{place, missed, goes_on, block, damaged}
 

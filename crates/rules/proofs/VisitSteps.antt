@@ -15,14 +15,14 @@ use Rattle.base.proofs.Walks.{pick_case}
 use Rattle.base.proofs.Sizes.{first_row, rows_frames, frames_fit, pow_divides}
 use Rattle.base.proofs.Frames.{block_of}
 use Rattle.base.proofs.Parts.{block_part}
-use Rattle.bitfield_rules.specs.declared.Placed.{Placed}
+use Rattle.bitfield_rules.specs.Calls.{Placed}
 use Rattle.bitfield_rules.specs.Calls.{first_zeros}
 use Rattle.bitfield_rules.specs.Means.{FirstClear}
 use Rattle.bitfield_rules.proofs.Laws.{search_found}
 use Rattle.rules.specs.Numbers.{mark, huge_of}
 use Rattle.rules.specs.State.{mem, entry_of, free_of, rows_of}
-use Rattle.rules.specs.declared.Visit.{Visit}
-use Rattle.rules.specs.declared.Visit.TheVariants.{Pass, Damage, Place}
+use Rattle.rules.specs.Numbered.{Visit}
+use Rattle.rules.specs.Numbered.{Pass, Damage, Place}
 use Rattle.rules.specs.Get.{searched, visit}
 
 -- the rows from a up to a + s, where a is the first row of huge frame x and s how many it has, are its part

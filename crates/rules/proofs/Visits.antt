@@ -17,7 +17,7 @@ use Rattle.base.proofs.Sizes.{rows_frames, first_row}
 use Rattle.base.proofs.Rests.{mod_sum}
 use Rattle.base.proofs.Parts.{part_long, bit_part, block_part}
 use Rattle.base.proofs.Frames.{block_each, set_not_clear}
-use Rattle.bitfield_rules.specs.declared.Placed.{Placed}
+use Rattle.bitfield_rules.specs.Calls.{Placed}
 use Rattle.bitfield_rules.specs.Calls.{distance, first_zeros}
 use Rattle.bitfield_rules.specs.Means.{FirstClear}
 use Rattle.bitfield_rules.proofs.Laws.{search_found, search_missed, search_code}
@@ -25,8 +25,8 @@ use Rattle.bitfield_rules.proofs.Order.{origin_block}
 use Rattle.rules.specs.Numbers.{mark, huge_of, block_at, entries_needed}
 use Rattle.rules.specs.State.{Mem, entry_of, rows_of}
 use Rattle.rules.proofs.Lent.{present_rows}
-use Rattle.rules.specs.declared.Visit.{Visit}
-use Rattle.rules.specs.declared.Visit.TheVariants.{Pass, Damage, Place}
+use Rattle.rules.specs.Numbered.{Visit}
+use Rattle.rules.specs.Numbered.{Pass, Damage, Place}
 use Rattle.rules.specs.Get.{visit}
 use Rattle.rules.proofs.BlockTurns.{placed_within}
 use Rattle.rules.proofs.VisitSteps.{Looked, visit_marked, visit_few, visit_placed, visit_none, visit_free}

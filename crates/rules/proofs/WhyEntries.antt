@@ -14,12 +14,12 @@ use Rattle.base.proofs.Sizes.{pow_divides}
 use Rattle.base.proofs.Walks.{all_same, all_shift}
 use Rattle.base.proofs.Tests.{not_leb}
 use Rattle.base.proofs.Counting.{all_runs}
-use Rattle.bitfield_rules.specs.declared.Placed.{Placed}
+use Rattle.bitfield_rules.specs.Calls.{Placed}
 use Rattle.bitfield_rules.specs.Calls.{first_zeros}
 use Rattle.rules.specs.Numbers.{huge_of, present, tree_log, top_order, trees_needed, entries_needed, group_of}
 use Rattle.rules.specs.State.{Mem, entry_of, free_of, rows_of, entries_are, blocks_in}
 use Rattle.rules.specs.Get.{visit}
-use Rattle.rules.specs.declared.Visit.TheVariants.{Pass, Damage, Place}
+use Rattle.rules.specs.Numbered.{Pass, Damage, Place}
 use Rattle.rules.specs.Consistent.{ConsistentIn, entirely}
 use Rattle.rules.specs.Why.{too_few, spread, no_block}
 use Rattle.rules.proofs.Entries.{frames_in}

@@ -9,8 +9,8 @@ use borrow.Author.Tests.{lt-ltb, le-ltb, le-leb, leb-true, not-true, not-false}
 use Rattle.base.specs.Walk.{pick, first, all}
 use Rattle.base.proofs.Tests.{both}
 use Rattle.base.proofs.Walks.{pick_case, pick_of, all_of, all_not}
-use Rattle.rules.specs.declared.Got.{Got}
-use Rattle.rules.specs.declared.Why.{Why}
+use Rattle.rules.specs.Numbered.{Got}
+use Rattle.rules.specs.Numbered.{Why}
 use Rattle.rules.specs.Numbers.{mark, huge_of, tree_of, group_of}
 use Rattle.rules.specs.State.{Mem, entry_of, entries_are}
 use Rattle.rules.specs.Refusals.{block_refusal}

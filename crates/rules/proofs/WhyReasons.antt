@@ -6,7 +6,7 @@ use Prim.Native.Nat.{ℕ, ◌*◌, ◌^◌, ◌≤◌, ◌<◌}
 use native.Mathlib.Omega.{arith}
 use borrow.Author.Tests.{ltb-true, ltb-false}
 use Rattle.base.proofs.Walks.{pick_case}
-use Rattle.rules.specs.declared.Got.{Got}
+use Rattle.rules.specs.Numbered.{Got}
 use Rattle.rules.specs.Numbers.{tree_of}
 use Rattle.rules.specs.State.{Mem, lengths_of}
 use Rattle.rules.specs.Refusals.{Started, start_refusal}

@@ -10,7 +10,7 @@ use Rattle.base.specs.Code.{unless, or_else}
 use Rattle.base.specs.Size.{Huge}
 use Rattle.base.proofs.Walks.{pick_case}
 use Rattle.base.proofs.Codes.{done, none_of, holds}
-use Rattle.rules.specs.declared.Why.{Why}
+use Rattle.rules.specs.Numbered.{Why}
 use Rattle.rules.specs.Numbers.{huge_of, tree_of, group_of}
 use Rattle.rules.specs.State.{Mem, lengths_of}
 use Rattle.rules.specs.Refusals.{Sized, block_refusal, start_refusal}

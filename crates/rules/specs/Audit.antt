@@ -5,7 +5,7 @@ use Rattle.base.specs.Code.{unless}
 use Rattle.base.specs.Bits.{block_is}
 use Rattle.rules.specs.Numbers.{mark, entries_needed, present, whole}
 use Rattle.rules.specs.State.{Mem, entry_of, clear_of}
-use Rattle.rules.specs.declared.Fault.{Fault}
+use Rattle.rules.specs.Numbered.{Fault}
 use Rattle.rules.specs.Refusals.{sizes_refusal}
 
 -- the answer of an audit: code, huge frame and reason

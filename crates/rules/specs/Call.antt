@@ -2,9 +2,9 @@
 use Rattle.std.specs.Prelude.{List, [], ◌∷◌, ℕ, get_or}
 use Rattle.base.specs.Walk.{pick}
 use Rattle.base.specs.Code.{Out, out}
-use Rattle.rules.specs.declared.Got.{Got}
-use Rattle.rules.specs.declared.Stats.{Stats as Statistics}
-use Rattle.rules.specs.declared.Why.{Why}
+use Rattle.rules.specs.Numbered.{Got}
+use Rattle.rules.specs.Numbered.{Stats as Statistics}
+use Rattle.rules.specs.Numbered.{Why}
 use Rattle.rules.specs.State.{Mem}
 use Rattle.rules.specs.Refusals.{frame_refusal}
 use Rattle.rules.specs.Calls.{get, get_at, put, is_free, stats, stats_at, audit, recover, room, tree_run, why_get, why_get_at, why_put}

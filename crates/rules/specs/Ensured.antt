@@ -1,12 +1,12 @@
 -- What each call answers and leaves, under the name that its contract and the theorems share: m is the memory as lent, r the answer, left the memory left.
 use Rattle.std.specs.Prelude.{◌≡◌, List, ℕ}
 use Rattle.base.specs.Code.{out}
-use Rattle.bitfield_rules.specs.declared.Answered.{Answered}
-use Rattle.rules.specs.declared.Got.{Got}
-use Rattle.rules.specs.declared.Stats.{Stats}
-use Rattle.rules.specs.declared.Fault.{Fault}
-use Rattle.rules.specs.declared.Recovered.{Recovered}
-use Rattle.rules.specs.declared.Why.{Why}
+use Rattle.bitfield_rules.specs.Calls.{Answered}
+use Rattle.rules.specs.Numbered.{Got}
+use Rattle.rules.specs.Numbered.{Stats}
+use Rattle.rules.specs.Numbered.{Fault}
+use Rattle.rules.specs.Numbered.{Recovered}
+use Rattle.rules.specs.Numbered.{Why}
 use Rattle.rules.specs.State.{Mem}
 use Rattle.rules.specs.Refusals.{frame_refusal}
 use Rattle.rules.specs.Get.{get, get_at}

@@ -4,14 +4,14 @@ use Rattle.base.specs.Walk.{pick, first, written}
 use Rattle.base.specs.Code.{Out, out, unrefused}
 use Rattle.base.specs.Size.{rows_per}
 use Rattle.base.specs.Bits.{block_is, with_bits}
-use Rattle.rules.specs.declared.Got.{Got}
+use Rattle.rules.specs.Numbered.{Got}
 use Rattle.rules.specs.Numbers.{mark, huge_of, present, group_of}
 use Rattle.rules.specs.Refusals.{block_refusal, start_refusal}
-use Rattle.bitfield_rules.specs.declared.Placed.{Placed}
+use Rattle.bitfield_rules.specs.Calls.{Placed}
 use Rattle.bitfield_rules.specs.Calls.{first_zeros}
 use Rattle.rules.specs.State.{Mem, with_rows, with_entry, on_entries, entry_of, free_of, rows_of, entries_are}
-use Rattle.rules.specs.declared.Visit.{Visit}
-use Rattle.rules.specs.declared.Visit.TheVariants.{Pass, Damage, Place}
+use Rattle.rules.specs.Numbered.{Visit}
+use Rattle.rules.specs.Numbered.{Pass, Damage, Place}
 
 -- the answer of a get: code, frame and probes
 abbrev pub got : ℕ → ℕ → ℕ → Got

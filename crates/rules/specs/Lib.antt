@@ -1,3 +1,4 @@
+pub mod Numbered
 pub mod Numbers
 pub mod State
 pub mod Refusals
@@ -12,6 +13,7 @@ pub mod Words
 pub mod Consistent
 pub mod Why
 pub mod Calls
+pub mod Answers
 pub mod Ensured
 pub mod Call
 pub mod Steps

@@ -4,9 +4,9 @@ use Rattle.base.specs.Walk.{pick, count, sum}
 use Rattle.base.specs.Bits.{block_is, bit_is}
 use Rattle.rules.specs.Numbers.{huge_of, tree_at, top_order, trees_needed, entries_needed, group_of}
 use Rattle.rules.specs.State.{Mem, entry_of, free_of, entries_are, blocks_in}
-use Rattle.rules.specs.declared.Stats.{Stats}
+use Rattle.rules.specs.Numbered.{Stats}
 use Rattle.rules.specs.Refusals.{sizes_refusal, block_refusal, frame_refusal}
-use Rattle.bitfield_rules.specs.declared.Answered.{Answered}
+use Rattle.bitfield_rules.specs.Calls.{Answered}
 use Rattle.bitfield_rules.specs.Calls.{answered}
 
 -- "is_free. Count below 2^order no; count 512 yes; else the block's bits all clear"

@@ -6,7 +6,7 @@ use Rattle.base.specs.Size.{rows_per}
 use Rattle.rules.specs.Numbers.{mark, ceil, rows_needed, entries_needed}
 use Rattle.rules.specs.State.{Mem, with_rows, with_entries, entry_of, clear_of}
 use Rattle.rules.specs.Audit.{reason}
-use Rattle.rules.specs.declared.Recovered.{Recovered}
+use Rattle.rules.specs.Numbered.{Recovered}
 use Rattle.rules.specs.Refusals.{sizes_refusal}
 
 -- the answer of recover: code, entries and bitfields changed

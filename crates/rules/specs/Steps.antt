@@ -1,7 +1,7 @@
 -- Past checks 1 to 6, on any memory, consistent or damaged: when a call is refused with 7, when with 8, and what it takes or gives back otherwise, in bits and entries.
 use Rattle.std.specs.Prelude.{◌≡◌, Bool, true, false, not, ◌&&◌, ◌||◌, ℕ, ◌+◌, ◌-◌, ◌*◌, ◌/◌, ◌%◌, ◌^◌, eqb, leb, ltb}
 use Rattle.rules.specs.Words.{pick, first, all, unless, Huge, rows_per, bit_is, block_is, mark, huge_of, tree_of, block_at, group_of, entries_needed, Mem, entry_of, free_of, entries_are, block_refusal, start_refusal, got, recovered}
-use Rattle.rules.specs.declared.Got.{Got}
+use Rattle.rules.specs.Numbered.{Got}
 use Rattle.rules.specs.Call.{RowCall, BlockCall, AllCall, Call}
 use Rattle.rules.specs.Calls.{get, get_at, put, recover}
 use Rattle.rules.specs.Audit.{reason}

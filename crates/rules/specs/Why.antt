@@ -1,7 +1,7 @@
 -- Document 02, W-202: why a get or a put is turned down, in terms of free and held frames.
 use Rattle.std.specs.Prelude.{Bool, not, ◌&&◌, List, ℕ, ◌+◌, ◌-◌, ◌*◌, ◌^◌, eqb, leb, ltb}
 use Rattle.rules.specs.Words.{pick, first, all, unless, or_else, mark, huge_of, tree_of, top_order, group_of, Mem, entry_of, block_refusal, start_refusal}
-use Rattle.rules.specs.declared.Why.{Why}
+use Rattle.rules.specs.Numbered.{Why}
 use Rattle.rules.specs.Audit.{reason}
 use Rattle.rules.specs.Consistent.{free, held, entirely, free_frames}
 

@@ -1,7 +1,7 @@
 -- Document 02, W-202: "each reason is proved to hold exactly when given, and 0 is given exactly when the request would succeed".
 use Rattle.std.specs.Prelude.{◌≡◌, Bool, true, false, ℕ, ◌+◌, ◌*◌, ◌/◌, ◌^◌, ◌≤◌, ◌<◌, eqb}
 use Rattle.rules.specs.Words.{pick, all, Huge, mark, huge_of, tree_of, group_of, Mem, entries_are, block_refusal, start_refusal}
-use Rattle.rules.specs.declared.Why.{Why}
+use Rattle.rules.specs.Numbered.{Why}
 use Rattle.rules.specs.Calls.{get, get_at, put, why_get, why_get_at, why_put}
 use Rattle.rules.specs.Why.{why, unmarked}
 use Rattle.rules.specs.Consistent.{Fits, ConsistentIn, free, held, free_frames}

@@ -2,9 +2,11 @@
 // frames, rows, huge frames and trees. T enters them by its logarithm k, so that none of them divides.
 #![tactic(auto)]
 
-ghost use Rattle.std.specs.Prelude.{◌≡◌, true, ◌*◌, ◌/◌, ◌%◌, ◌^◌, ◌<◌, ◌≤◌};
-ghost use Rattle.base.specs.Size.{Huge, rows_per};
+ghost use Rattle.std.specs.Prelude.{◌≡◌, true, is_some, IfSome, ◌*◌, ◌/◌, ◌%◌, ◌^◌, ◌<◌, ◌≤◌};
+ghost use Rattle.base.specs.Size.{rows_per};
 ghost use Rattle.rules.specs.Numbers.{row_of, bit_of, huge_of, tree_at, tree_log, is_tree, top_order, aligned, rows_needed, entries_needed};
+
+use base::HugeOrder;
 
 // The bits of a row.
 pub const ROW_BITS: usize = 64;
@@ -22,29 +24,45 @@ pub const TREE_MAX: usize = 512;
 pub fn is_tree(t: usize) -> bool
     ensures { result ≡ is_tree t }
 {
-    if t == 0 {
-        return false;
-    }
-    if t > TREE_MAX {
+    if t == 0 || TREE_MAX < t {
         return false;
     }
     t & (t - 1) == 0
 }
 
-// log2 T.
-pub fn tree_log(t: usize) -> usize
-    requires { is_tree t ≡ true }
-    ensures { result ≡ tree_log t }
-{
-    usize::trailing_zeros(t) as usize
+// The size of a tree in huge frames: one of the ten.
+#[derive(Clone, Copy)]
+pub struct TreeSize {
+    pub huge: usize,
+    pub ghost within: { is_tree huge ≡ true },
+}
+
+impl TreeSize {
+    // The tree size of a number, if it is one.
+    pub fn new(t: usize) -> Option<TreeSize>
+        ensures some { is_some result ≡ is_tree t }
+        ensures same { IfSome result (λ size. size.huge ≡ t) }
+    {
+        if is_tree(t) {
+            Some(TreeSize { huge: t })
+        } else {
+            None
+        }
+    }
+
+    // log2 T.
+    pub fn log(self) -> usize
+        ensures { result ≡ tree_log self.huge }
+    {
+        usize::trailing_zeros(self.huge) as usize
+    }
 }
 
 // The order of a whole tree.
-pub fn top_order(h: usize, t: usize) -> usize
-    requires { (Huge h) × (is_tree t ≡ true) }
-    ensures { result ≡ top_order h t }
+pub fn top_order(h: HugeOrder, t: TreeSize) -> usize
+    ensures { result ≡ top_order h.order t.huge }
 {
-    h + tree_log(t)
+    h.order + t.log()
 }
 
 // The rest of x by 2^k.
@@ -78,43 +96,40 @@ pub fn frame_bit(frame: usize) -> usize
 }
 
 // The huge frame of a frame.
-pub fn frame_huge(h: usize, frame: usize) -> usize
-    requires { Huge h }
-    ensures { result ≡ huge_of h frame }
+pub fn frame_huge(h: HugeOrder, frame: usize) -> usize
+    ensures { result ≡ huge_of h.order frame }
 {
-    frame >> h
+    frame >> h.order
 }
 
 // The place of a frame in its huge frame.
-pub fn frame_place(h: usize, frame: usize) -> usize
-    requires { Huge h }
-    ensures { result ≡ frame % 2 ^ h }
+pub fn frame_place(h: HugeOrder, frame: usize) -> usize
+    ensures { result ≡ frame % 2 ^ h.order }
 {
-    rest(frame, h)
+    rest(frame, h.order)
 }
 
 // The huge frame of a row.
-pub fn row_huge(h: usize, row: usize) -> usize
-    requires { Huge h }
-    ensures { result ≡ huge_of h (row * 64) }
+pub fn row_huge(h: HugeOrder, row: usize) -> usize
+    ensures { result ≡ huge_of h.order (row * 64) }
 {
-    row >> (h - 6)
+    row >> (h.order - 6)
 }
 
 // The first frame of a huge frame.
-pub fn huge_frame(h: usize, huge: usize) -> usize
-    requires { (Huge h) × (huge * 2 ^ h < 2 ^ 64) }
-    ensures { result ≡ huge * 2 ^ h }
+pub fn huge_frame(h: HugeOrder, huge: usize) -> usize
+    requires { huge * 2 ^ h.order < 2 ^ 64 }
+    ensures { result ≡ huge * 2 ^ h.order }
 {
-    huge << h
+    huge << h.order
 }
 
 // The first row of a huge frame.
-pub fn huge_row(h: usize, huge: usize) -> usize
-    requires { (Huge h) × (huge * rows_per h < 2 ^ 64) }
-    ensures { result ≡ huge * rows_per h }
+pub fn huge_row(h: HugeOrder, huge: usize) -> usize
+    requires { huge * rows_per h.order < 2 ^ 64 }
+    ensures { result ≡ huge * rows_per h.order }
 {
-    huge << (h - 6)
+    huge << (h.order - 6)
 }
 
 // The tree of a huge frame.
@@ -142,27 +157,26 @@ pub fn tree_huge(k: usize, tree: usize) -> usize
 }
 
 // The first huge frame of a frame's tree.
-pub fn tree_first(h: usize, t: usize, frame: usize) -> usize
-    requires { (Huge h) × (is_tree t ≡ true) }
-    ensures { result ≡ tree_at h t frame }
+pub fn tree_first(h: HugeOrder, t: TreeSize, frame: usize) -> usize
+    ensures { result ≡ tree_at h.order t.huge frame }
 {
-    let k = tree_log(t);
-    tree_huge(k, frame >> (h + k))
+    let k = t.log();
+    tree_huge(k, frame >> (h.order + k))
 }
 
 // The rows that n frames need.
-pub fn rows_needed(h: usize, n: usize) -> usize
-    requires { (Huge h) × (n ≤ 1048576) }
-    ensures { result ≡ rows_needed h n }
+pub fn rows_needed(h: HugeOrder, n: usize) -> usize
+    requires { n ≤ 1048576 }
+    ensures { result ≡ rows_needed h.order n }
 {
-    ((n + (base::size(h) - 1)) >> h) << (h - 6)
+    ((n + (h.frames() - 1)) >> h.order) << (h.order - 6)
 }
 
 // The entries that n frames need, in trees of t.
-pub fn entries_needed(h: usize, n: usize, t: usize) -> usize
-    requires { (Huge h) × (n ≤ 1048576) × (is_tree t ≡ true) }
-    ensures { result ≡ entries_needed h n t }
+pub fn entries_needed(h: HugeOrder, n: usize, t: TreeSize) -> usize
+    requires { n ≤ 1048576 }
+    ensures { result ≡ entries_needed h.order n t.huge }
 {
     let order = top_order(h, t);
-    ((n + (base::size(order) - 1)) >> order) << tree_log(t)
+    ((n + (base::size(order) - 1)) >> order) << t.log()
 }

@@ -5,7 +5,7 @@ use Prim.Native.Nat.{ℕ}
 use native.Mathlib.Omega.{arith}
 use Rattle.base.specs.Size.{Huge}
 use Rattle.base.proofs.Codes.{stops, passes, no_code, its_code, refused, answered}
-use Rattle.rules.specs.declared.Why.{Why}
+use Rattle.rules.specs.Numbered.{Why}
 use Rattle.rules.specs.Numbers.{tree_of}
 use Rattle.rules.specs.State.{Mem, lengths_of}
 use Rattle.rules.specs.Refusals.{Framed}

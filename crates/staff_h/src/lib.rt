@@ -1,175 +1,131 @@
 // The calls of `staff` over the huge order h, for callers that have it as a value.
 #![tactic(auto)]
 
-ghost use Rattle.std.specs.Prelude.{◌≡◌, replicate};
-ghost use Rattle.base.specs.Size.{Huge};
+ghost use Rattle.std.specs.Prelude.{◌≡◌, replicate, OnErr};
+ghost use Rattle.base.specs.Refused.{code_of};
 ghost use Rattle.rules.specs.State.{mem};
 ghost use Rattle.rules.specs.Room.{orders};
+ghost use Rattle.rules.specs.Answers.{fault_of, recovered_of, why_of};
 ghost use Rattle.rules.specs.Ensured.{FindsFault, TellsWhyGet, TellsWhyGetAt, TellsWhyPut, TellsRoom, LendsRun, Recovers};
 
-use rules::{Fault, Recovered, Why};
+use answers::{Cause, Faulty, Mended};
+use base::{HugeOrder, Refusal};
 
-pub fn audit(h: usize, n: usize, t: usize, rows: &[u64], entries: &[u16]) -> Fault
-    requires { Huge h }
-    ensures { FindsFault h n t (mem rows.now entries.now) result }
+pub fn audit(
+    h: HugeOrder,
+    n: usize,
+    t: usize,
+    rows: &[u64],
+    entries: &[u16],
+) -> Result<Option<Faulty>, Refusal>
+    ensures { FindsFault h.order n t (mem rows.now entries.now) (fault_of result) }
 {
-    let code = refuse::sizes(h, n, t, rows.len(), entries.len());
-    if code != 0 {
-        return Fault {
-            code: code,
-            huge: 0,
-            reason: 0,
-        };
-    }
-    audit::all(h, n, t, rows, entries)
+    let t = refuse::sizes(h, n, t, rows.len(), entries.len())?;
+    Ok(audit::all(h, n, t, rows, entries))
 }
 
-pub fn recover(h: usize, n: usize, t: usize, rows: &mut [u64], entries: &mut [u16]) -> Recovered
-    requires { Huge h }
-    ensures { Recovers h n t (mem rows.old entries.old) result (mem rows.new entries.new) }
+pub fn recover(
+    h: HugeOrder,
+    n: usize,
+    t: usize,
+    rows: &mut [u64],
+    entries: &mut [u16],
+) -> Result<Mended, Refusal>
+    ensures { Recovers h.order n t (mem rows.old entries.old) (recovered_of result) (mem rows.new entries.new) }
 {
-    let code = refuse::sizes(h, n, t, rows.len(), entries.len());
-    if code != 0 {
-        return Recovered {
-            code: code,
-            entries: 0,
-            bitfields: 0,
-        };
-    }
+    let t = refuse::sizes(h, n, t, rows.len(), entries.len())?;
     recover::all(h, n, t, rows, entries)
 }
 
 pub fn why_get(
-    h: usize,
+    h: HugeOrder,
     n: usize,
     t: usize,
     rows: &[u64],
     entries: &[u16],
     row: usize,
     order: usize,
-) -> Why
-    requires { Huge h }
-    ensures { TellsWhyGet h n t (mem rows.now entries.now) row order result }
+) -> Result<Option<Cause>, Refusal>
+    ensures { TellsWhyGet h.order n t (mem rows.now entries.now) row order (why_of result) }
 {
-    let code = refuse::start(h, n, t, rows.len(), entries.len(), row, order);
-    if code != 0 {
-        return Why {
-            code: code,
-            reason: 0,
-            frame: 0,
-        };
-    }
+    let t = refuse::start(h, n, t, rows.len(), entries.len(), row, order)?;
     if !why::sound(h, n, t, rows, entries, row * 64) {
-        return Why {
-            code: 8,
-            reason: 0,
-            frame: 0,
-        };
+        return Err(Refusal::Damage);
     }
-    Why {
-        code: 0,
-        reason: why::get(h, t, rows, entries, row * 64, order),
-        frame: 0,
-    }
+    Ok(why::get(h, t, rows, entries, row * 64, order))
 }
 
+// The checks of this call and of the next are three lines that read as the request states them.
 pub fn why_get_at(
-    h: usize,
+    h: HugeOrder,
     n: usize,
     t: usize,
     rows: &[u64],
     entries: &[u16],
     frame: usize,
     order: usize,
-) -> Why
-    requires { Huge h }
-    ensures { TellsWhyGetAt h n t (mem rows.now entries.now) frame order result }
+) -> Result<Option<Cause>, Refusal>
+    ensures { TellsWhyGetAt h.order n t (mem rows.now entries.now) frame order (why_of result) }
 {
-    let code = refuse::block(h, n, t, rows.len(), entries.len(), frame, order);
-    if code != 0 {
-        return Why {
-            code: code,
-            reason: 0,
-            frame: 0,
-        };
-    }
+    let t = refuse::block(h, n, t, rows.len(), entries.len(), frame, order)?;
     if !why::sound(h, n, t, rows, entries, frame) {
-        return Why {
-            code: 8,
-            reason: 0,
-            frame: 0,
-        };
+        return Err(Refusal::Damage);
     }
-    why::get_at(h, rows, entries, frame, order)
+    Ok(why::get_at(h, rows, entries, frame, order))
 }
 
 pub fn why_put(
-    h: usize,
+    h: HugeOrder,
     n: usize,
     t: usize,
     rows: &[u64],
     entries: &[u16],
     frame: usize,
     order: usize,
-) -> Why
-    requires { Huge h }
-    ensures { TellsWhyPut h n t (mem rows.now entries.now) frame order result }
+) -> Result<Option<Cause>, Refusal>
+    ensures { TellsWhyPut h.order n t (mem rows.now entries.now) frame order (why_of result) }
 {
-    let code = refuse::block(h, n, t, rows.len(), entries.len(), frame, order);
-    if code != 0 {
-        return Why {
-            code: code,
-            reason: 0,
-            frame: 0,
-        };
-    }
+    let t = refuse::block(h, n, t, rows.len(), entries.len(), frame, order)?;
     if !why::sound(h, n, t, rows, entries, frame) {
-        return Why {
-            code: 8,
-            reason: 0,
-            frame: 0,
-        };
+        return Err(Refusal::Damage);
     }
-    why::put(h, rows, entries, frame, order)
+    Ok(why::put(h, rows, entries, frame, order))
 }
 
 // Fills in counts that are 0, and leaves them so where it is refused.
 pub fn room(
-    h: usize,
+    h: HugeOrder,
     n: usize,
     t: usize,
     rows: &[u64],
     entries: &[u16],
     frame: usize,
     counts: &mut [usize],
-) -> u32
-    requires { (Huge h) × (counts.old ≡ replicate (orders h) 0) }
-    ensures { TellsRoom h n t (mem rows.now entries.now) frame result counts.new }
+) -> Result<(), Refusal>
+    requires { counts.old ≡ replicate (orders h.order) 0 }
+    ensures tells { TellsRoom h.order n t (mem rows.now entries.now) frame (code_of result) counts.new }
+    ensures kept { OnErr result (counts.new ≡ counts.old) }
 {
-    let code = refuse::frame(h, n, t, rows.len(), entries.len(), frame);
-    if code != 0 {
-        return code;
-    }
+    let t = refuse::frame(h, n, t, rows.len(), entries.len(), frame)?;
     room::counts(h, t, entries, frame, counts);
-    0
+    Ok(())
 }
 
 pub fn tree_run<'a>(
-    h: usize,
+    h: HugeOrder,
     n: usize,
     t: usize,
     rows: &[u64],
     entries: &'a [u16],
     frame: usize,
 ) -> &'a [u16]
-    requires { Huge h }
-    ensures { LendsRun h n t (mem rows.now entries.now) frame result.now }
+    ensures { LendsRun h.order n t (mem rows.now entries.now) frame result.now }
 {
-    let code = refuse::frame(h, n, t, rows.len(), entries.len(), frame);
-    if code != 0 {
-        return &entries[0..0];
+    match refuse::frame(h, n, t, rows.len(), entries.len(), frame) {
+        Ok(t) => {
+            let first = shape::tree_first(h, t, frame);
+            &entries[first..first + t.huge]
+        }
+        Err(_) => &entries[..0],
     }
-    let a = shape::tree_first(h, t, frame);
-    let b = a + t;
-    &entries[a..b]
 }

@@ -1,18 +1,20 @@
 -- Clear rows, set rows from a frame on, and the row of that frame between them. Assumes nothing.
-use mathlib.Core.Path.{◌≡◌, sym, ap, ◌∙◌}
+use mathlib.Core.Path.{◌≡◌, sym, ◌∙◌}
 use mathlib.Core.Bool.{true, false}
 use mathlib.Core.List.{List, ◌++◌}
-use Prim.Native.Nat.{ℕ, ◌+◌, ◌-◌, ◌*◌, ◌/◌, ◌%◌, ◌^◌, ◌≤◌, ◌<◌, min}
+use Prim.Native.Nat.{ℕ, zero, suc, ◌+◌, ◌-◌, ◌*◌, ◌/◌, ◌%◌, ◌^◌, ◌≤◌, ◌<◌, min}
 use native.Mathlib.Decide.{dec_lt, ℕ_discrete}
-use native.Mathlib.Nat.{div-mul-le_self, mul-mod_left}
+use native.Mathlib.Nat.{div-mul-le_self, mul-mod_left, sub-add_cancel}
 use native.Mathlib.Omega.{arith}
 use lib.ListN.{length, get_or, set, take, drop, replicate, length-set}
-use lib.Pow.{shl_exact, ones_lt, ones_split, high}
+use lib.Arith.{digits_mod}
+use lib.Pow.{pow_pos}
 use lib.Seq.{get_or-set_same, get_or-set_other, ext_get_or}
 use Rattle.base.specs.Bits.{overlay, with_bits}
 use Rattle.base.specs.Size.{Huge}
 use Rattle.base.specs.Walk.{written}
 use Rattle.base.proofs.Masks.{overlay_none}
+use Rattle.base.proofs.Sizes.{pow_divides}
 use Rattle.base.proofs.Parts.{part_long}
 use Rattle.base.proofs.Writes.{length_with, get_d_with, with_beyond}
 use Rattle.base.proofs.Written.{length_written, written_in, written_before, written_beyond, solid_part}
@@ -43,12 +45,19 @@ module _ {v : ℕ} (fits : v < 2 ^ 64) where
       let kept : overlay false v 0 q ≡ v / 2 ^ q * 2 ^ q = omega arith in
       rw (kept, mul-mod_left) (omega (arith, div-mul-le_self v (2 ^ q)))
 
+-- m - 1 shifted by the power y of two wraps at m to what is below it
+wraps : (a y k : ℕ) → (a + 1) * y ≡ suc k → k * y % suc k ≡ a * y
+wraps a zero k e = absurd (omega (arith, e))
+wraps a (suc z) k e =
+    let low : a * suc z < suc k = omega (arith, e) in
+    let split : k * suc z ≡ z * suc k + a * suc z = omega (arith, e) in
+    rw split (digits_mod z low)
+
 -- the border's row, as the code makes it
-ones_above : (q : ℕ) → q ≤ 64 → (2 ^ 64 - 1) / 2 ^ q * 2 ^ q % 2 ^ 64 ≡ (2 ^ (64 - q) - 1) * 2 ^ q
+ones_above : (q : ℕ) → q ≤ 64 → (2 ^ 64 - 1) * 2 ^ q % 2 ^ 64 ≡ (2 ^ (64 - q) - 1) * 2 ^ q
 ones_above q h =
-    let e : 64 ≡ 64 - q + q = omega arith in
-    ap (λ (n : ℕ). (2 ^ n - 1) / 2 ^ q * 2 ^ q % 2 ^ 64) e ∙ ap (λ (x : ℕ). x / 2 ^ q * 2 ^ q % 2 ^ 64) (ones_split (64 - q) q)
-    ∙ ap (λ (x : ℕ). x * 2 ^ q % 2 ^ 64) (high (2 ^ (64 - q) - 1) q (ones_lt q)) ∙ shl_exact (64 - q) q 64 (ones_lt (64 - q)) (omega arith)
+    let all : (2 ^ (64 - q) - 1 + 1) * 2 ^ q ≡ 2 ^ 64 = rw (sub-add_cancel (pow_pos (64 - q))) (pow_divides q 64 h) in
+    wraps (2 ^ (64 - q) - 1) (2 ^ q) (2 ^ 64 - 1) all
 
 -- ---- k rows, cleared below frame c and set from there on
 
@@ -136,5 +145,5 @@ module _ {h : ℕ} (H : Huge h) (n c i k : ℕ) (rs : List ℕ) {ys zs : List �
   pub rows_whole : i ≡ k → left ≡ rows_from h n rs c
   rows_whole e = rw (left_is, ← k_is) (solids_all rs c k fits lent border_low (sym i_is ∙ e))
 
-  pub rows_border : (i ≡ k → ⊥) → {q : ℕ} → q ≡ c % 64 → set left i ((2 ^ 64 - 1) / 2 ^ q * 2 ^ q % 2 ^ 64) ≡ rows_from h n rs c
+  pub rows_border : (i ≡ k → ⊥) → {q : ℕ} → q ≡ c % 64 → set left i ((2 ^ 64 - 1) * 2 ^ q % 2 ^ 64) ≡ rows_from h n rs c
   rows_border e q_is = rw (left_is, i_is, q_is, ← k_is) (solids_border rs c k fits lent border_low _ (λ p. e (i_is ∙ p)) (ones_above (c % 64) (omega arith)))

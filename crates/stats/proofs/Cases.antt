@@ -1,16 +1,16 @@
 -- The statistics by the orders and the tree sizes, in the code's words: a law for each answer. Assumes nothing.
 use mathlib.Core.Path.{◌≡◌, refl, sym, ◌∙◌}
-use mathlib.Core.Bool.{Bool, true, false, ◌&&◌}
+use mathlib.Core.Bool.{true}
 use mathlib.Core.List.{List}
 use Prim.Native.Nat.{ℕ, ◌*◌, ◌/◌, ◌^◌}
 use native.Mathlib.Nat.{one-mul, mul-one}
 use lib.Dec.{eqb}
 use borrow.Author.Tests.{eq-eqb, ne_eqb}
 use Rattle.base.specs.Size.{Huge}
-use Rattle.base.specs.Walk.{pick, count}
+use Rattle.base.specs.Walk.{count}
 use Rattle.base.proofs.Walks.{count_same}
 use Rattle.base.proofs.Sums.{sum_one}
-use Rattle.rules.specs.declared.Stats.{Stats}
+use Rattle.rules.specs.Numbered.{Stats}
 use Rattle.rules.specs.Refusals.{Sized}
 use Rattle.rules.specs.Numbers.{huge_of, tree_at, is_tree, top_order, ceil, entries_needed}
 use Rattle.rules.specs.State.{Mem, mem, entry_of, free_of, blocks_in, Lengths}
@@ -39,11 +39,6 @@ module _ {h n t : ℕ} {len : Lengths} {needed free huge v : ℕ} (s : Sized h n
       rw (free_is, frames_in es needed 0, huge_is, v_is, all_is, one, one-mul (ceil n (2 ^ h * 1)), tree_of_one H es (ceil n (2 ^ h * 1)))
 
 -- ---- at a frame
-
--- a held frame is not free, whatever the count
-pub held_none : (b : Bool) → ◌≡◌ {A = ℕ} (pick (b && false) 1 0) 0
-held_none true = refl
-held_none false = refl
 
 module _ (h t : ℕ) (m : Mem) (f o : ℕ) where
   pub by_frame : {r : Stats} → o ≡ 0 → r ≡ at_frame h m f → r ≡ at_order h t m f o

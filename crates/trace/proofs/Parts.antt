@@ -1,6 +1,7 @@
 -- Part after part of an input: what was written is the answers to what was fed. Assumes nothing.
-use Rattle.std.proofs.Common.{◌≡◌, List, [], ◌++◌, ℕ, ◌+◌, ◌-◌, Option, Some, None, IfSome, refl, append-nil, length, take, drop, subst, sym, ap, ap₂, ◌∙◌, arith}
+use Rattle.std.proofs.Common.{◌≡◌, List, [], ◌∷◌, ◌++◌, ℕ, ◌+◌, ◌-◌, Option, Some, None, IfSome, refl, append_assoc, append-nil, length, take, drop, subst, sym, ap, ap₂, ◌∙◌, arith}
 use Rattle.std.proofs.Math.Seq.{take-length, take-add, paste}
+use Rattle.std.proofs.lemmas.List.{nil_from_length}
 use Rattle.std.proofs.lemmas.List.Edits.{take-paste}
 use Rattle.std.proofs.KnownBytes.{Appends-nil, Appends-trans, Consumes-nil, Consumes-trans, Consumes-kept, Consumes-all}
 use Rattle.std.specs.Io.KnownBytes.{Appends, Consumes, Keeps, IsAtEnd}
@@ -11,7 +12,7 @@ use Rattle.lines.proofs.Pastes.{text_ends}
 use Rattle.dialogue.specs.declared.Served.{Served}
 use Rattle.dialogue.specs.Dialogue.{Dialogue, opening, fed, finished, answers, printed}
 use Rattle.dialogue.specs.Feeds.{Serves}
-use Rattle.dialogue.proofs.Cases.{part_rest, fed_none}
+use Rattle.dialogue.proofs.Cases.{served_rest, fed_none}
 use Rattle.dialogue.proofs.Laws.{fed_parts, printed_parts}
 use Rattle.trace.specs.Passes.{Follows, AnswersPart, AnswersAll}
 
@@ -23,27 +24,48 @@ text_is l s {e} {l'} p =
     rw (ends, text) (take-paste l 0 s (length s) (omega arith) (omega arith) ∙ take-length s)
 
 -- none of an input is fed, and nothing is written
-pub none_written : (d : Dialogue) (known : Option (List ℕ)) → Appends known known (printed (fed d []).answer)
+none_written : (d : Dialogue) (known : Option (List ℕ)) → Appends known known (printed (fed d []).answer)
 unfolding fed printed
 none_written d known = Appends-nil known
 
--- one part more is served, and its answers are written behind those before
-module _ (d : Dialogue) (input text : List ℕ) (at : ℕ) (left : Dialogue) (was : left ≡ (fed d (take at input)).left)
-    (r : Served) (text' : List ℕ) (left' : Dialogue) (serves : Serves left (take (length input - at) (drop at input)) text r text' left') where
-  served_says : (fed d (take at input)).answer ++ (fed left (take r.used (take (length input - at) (drop at input)))).answer
-      ≡ (fed d (take (at + r.used) input)).answer
-  served_says =
-      ap₂ (λ (x : Dialogue) (y : List ℕ). (fed d (take at input)).answer ++ (fed x (take r.used y)).answer) was (part_rest input at)
-      ∙ sym (ap (λ (o : Out (List Answer) Dialogue). o.answer) (fed_parts d (take at input) (take r.used (drop at input))))
-      ∙ ap (λ (l : List ℕ). (fed d l).answer) (sym (take-add at r.used input))
+-- what is left to serve of an input: with its answers, behind those that were written, all are given
+pub record Goes (d : Dialogue) (input : List ℕ) (old now : Option (List ℕ)) (left : Dialogue) (rest : List ℕ) : Type 0 where
+  pub said : List Answer
+  pub leaves : (fed left rest).left ≡ (fed d input).left
+  pub answers : said ++ (fed left rest).answer ≡ (fed d input).answer
+  pub writes : Appends old now (printed said)
 
-  pub served_writes : (a b c : Option (List ℕ)) → Appends a b (printed (fed d (take at input)).answer) → Appends b c (take r.end text')
-      → Appends a c (printed (fed d (take (at + r.used) input)).answer)
-  served_writes a b c h w =
-      let before = (fed d (take at input)).answer in
-      let said = (fed left (take r.used (take (length input - at) (drop at input)))).answer in
-      subst (Appends a c) (sym (printed_parts before said) ∙ ap printed served_says)
-      (Appends-trans a b c (printed before) (printed said) h (subst (Appends b c) (text_is text (printed said) serves.prints) w))
+pub goes_first : (d : Dialogue) (input : List ℕ) (known : Option (List ℕ)) → Goes d input known known d input
+unfolding printed
+goes_first d input known = record { said = []; leaves = refl; answers = refl; writes = Appends-nil known }
+
+module _ {d : Dialogue} {input : List ℕ} {old now : Option (List ℕ)} {left : Dialogue} {rest : List ℕ} (g : Goes d input old now left rest) where
+  -- one part more is served, and its answers are written
+  pub goes_on : (text : List ℕ) (r : Served) (text' : List ℕ) (left' : Dialogue) (now' : Option (List ℕ)) → Serves left rest text r text' left'
+      → Appends now now' (take r.end text') → Goes d input old now' left' (drop r.used rest)
+  goes_on text r text' left' now' serves w =
+      let part = (fed left (take r.used rest)).answer in
+      let both = served_rest left rest text r text' left' serves in
+      record {
+        said = g.said ++ part;
+        leaves = sym (ap (λ (o : Out (List Answer) Dialogue). o.left) both) ∙ g.leaves;
+        answers = append_assoc g.said part (fed left' (drop r.used rest)).answer
+            ∙ ap (λ (o : Out (List Answer) Dialogue). g.said ++ o.answer) (sym both) ∙ g.answers;
+        writes = subst (Appends old now') (sym (printed_parts g.said part))
+            (Appends-trans old now now' (printed g.said) (printed part) g.writes (subst (Appends now now') (text_is text (printed part) serves.prints) w));
+      }
+
+  -- nothing is left
+  pub goes_last : length rest ≡ 0 → left ≡ (fed d input).left
+  unfolding fed
+  goes_last e = ap (λ (l : List ℕ). (fed left l).left) (sym (nil_from_length rest e)) ∙ g.leaves
+
+  pub all_written : length rest ≡ 0 → Appends old now (printed (fed d input).answer)
+  unfolding fed
+  all_written e =
+      subst (λ (x : List Answer). Appends old now (printed x))
+      (sym (append-nil g.said) ∙ ap (λ (l : List ℕ). g.said ++ (fed left l).answer) (sym (nil_from_length rest e)) ∙ g.answers)
+      g.writes
 
 -- ---- parts that were read, one after the other
 

@@ -1,13 +1,13 @@
 -- What the contracts say: what a part of the input leaves, and what is read and written of the whole.
-use Rattle.std.specs.Prelude.{◌≡◌, false, List, ℕ, ◌≤◌, Option, IfSome}
+use Rattle.std.specs.Prelude.{◌≡◌, List, ℕ, ◌≤◌, Option, IfSome}
 use Rattle.std.specs.Io.KnownBytes.{Appends, Consumes}
 use Rattle.dialogue.specs.Dialogue.{Dialogue, opening, fed, answers, printed}
-use Rattle.trace.specs.declared.Passed.{Passed}
+use Rattle.dialogue.specs.declared.State.{State}
 
 -- where all answers to a part of the input were written, the dialogue that was fed that part is left
-pub record Passes (d : Dialogue) (input : List ℕ) (r : Passed) (left : Dialogue) : Type 0 where
-  pub kept : r.state.kept ≤ 65
-  pub leaves : r.lost ≡ false → left ≡ (fed d input).left
+pub record Passes (d : Dialogue) (input : List ℕ) (r : State) (left : Dialogue) : Type 0 where
+  pub kept : r.kept ≤ 65
+  pub leaves : left ≡ (fed d input).left
 
 -- a dialogue that some input leads to
 abbrev pub Reached : Dialogue → Type 0

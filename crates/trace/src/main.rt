@@ -3,7 +3,7 @@
 // it reads and prints goes through `dialogue`, which says all of it; here are only the calls that read and write.
 #![tactic(auto)]
 
-ghost use Rattle.std.specs.Prelude.{◌≡◌, false, ◌≤◌, length, OnOk, IfErr, IsErrOf};
+ghost use Rattle.std.specs.Prelude.{◌≡◌, ◌≤◌, length, OnOk, IfOk, IfErr, IsErrOf};
 ghost use Rattle.std.specs.Io.KnownBytes.{Appends};
 ghost use Rattle.dialogue.specs.Dialogue.{fed, finished, printed};
 ghost use Rattle.dialogue.specs.Feeds.{held, Ready};
@@ -30,13 +30,6 @@ impl fmt::Display for Failure {
     }
 }
 
-// What a part of the input leaves, and whether answers to it could not be written.
-#[derive(Clone, Copy)]
-struct Passed {
-    state: State,
-    lost: bool,
-}
-
 // Answers a part of the input.
 fn pass<W: Write>(
     state: State,
@@ -46,31 +39,24 @@ fn pass<W: Write>(
     entries: &mut [u16],
     text: &mut [u8],
     output: &mut W,
-) -> Passed
+) -> Result<State, Failure>
     requires { Ready state line.old × (84 ≤ length text.old) }
-    ensures passes { Passes (held state rows.old entries.old line.old) input.now result (held result.state rows.new entries.new line.new) }
-    ensures writes { result.lost ≡ false → Appends (W.contents output.old) (W.contents output.new)
-        (printed (fed (held state rows.old entries.old line.old) input.now).answer) }
+    ensures passes { IfOk result (λ left. Passes (held state rows.old entries.old line.old) input.now left (held left rows.new entries.new line.new)) }
+    ensures writes { OnOk result (Appends (W.contents output.old) (W.contents output.new)
+        (printed (fed (held state rows.old entries.old line.old) input.now).answer)) }
+    ensures unwritten { IfErr result (λ e. e ≡ Failure.Unwritten) }
 {
     let mut now = state;
-    let mut at = 0;
-    while at < input.len() {
-        let served = dialogue::serve(now, &input[at..], line, rows, entries, text);
-        let end = served.end;
-        let after = served.state;
-        now = after;
-        at += served.used;
-        if output.write_all(&text[..end]).is_err() {
-            return Passed {
-                state: now,
-                lost: true,
-            };
-        }
+    let mut rest = input;
+    while !rest.is_empty() {
+        let served = dialogue::serve(now, rest, line, rows, entries, text);
+        output
+            .write_all(&text[..served.end])
+            .map_err(|_| Failure::Unwritten)?;
+        now = served.state;
+        rest = &rest[served.used..];
     }
-    Passed {
-        state: now,
-        lost: false,
-    }
+    Ok(now)
 }
 
 // Answers a last line that has no end.
@@ -89,10 +75,9 @@ fn finish<W: Write>(
 {
     let reply = dialogue::finish(state, line, rows, entries);
     let end = dialogue::print(text, 0, reply);
-    if output.write_all(&text[..end]).is_err() {
-        return Err(Failure::Unwritten);
-    }
-    Ok(())
+    output
+        .write_all(&text[..end])
+        .map_err(|_| Failure::Unwritten)
 }
 
 // The input in parts, each as large as what is there. The number of parts is far beyond any use.
@@ -118,7 +103,7 @@ fn run<R: Read, W: Write>(input: &mut R, output: &mut W) -> Result<(), Failure>
         if count == 0 {
             return finish(state, &line, &mut rows, &mut entries, &mut text, output);
         }
-        let passed = pass(
+        state = pass(
             state,
             &part[..count],
             &mut line,
@@ -126,12 +111,7 @@ fn run<R: Read, W: Write>(input: &mut R, output: &mut W) -> Result<(), Failure>
             &mut entries,
             &mut text,
             output,
-        );
-        if passed.lost {
-            return Err(Failure::Unwritten);
-        }
-        let after = passed.state;
-        state = after;
+        )?;
     }
     Err(Failure::Unread)
 }

@@ -1,34 +1,15 @@
 -- The visits that a get skips, and the one that ends it with a block: what the code does answers as the rules say. Assumes nothing.
-use Rattle.std.proofs.Common.{◌≡◌, ℕ, ◌+◌, ◌-◌, ◌/◌, ◌%◌, ◌^◌, ◌<◌, ◌≤◌, Bool, false, ltb, leb, List, set, sym, refl, ap, ◌∙◌, subst, mod-eq_of_lt, arith, le-ltb, lt-ltb, eq-eqb, ne_eqb, le-leb}
-use native.Mathlib.Decide.{dec_le, ℕ_discrete}
-use borrow.Author.Tests.{lt-leb}
+use Rattle.std.proofs.Common.{◌≡◌, ℕ, ◌+◌, ◌-◌, ◌/◌, ◌^◌, ◌<◌, ◌≤◌, Bool, false, List, set, refl, subst, arith}
 use Rattle.base.specs.Walk.{first}
 use Rattle.base.specs.Code.{out}
 use Rattle.base.specs.Size.{rows_per}
 use Rattle.base.proofs.Walks.{FirstAt, first_skip, first_before, first_from, first_le}
-use Rattle.rules.specs.Numbers.{mark}
-use Rattle.rules.specs.State.{mem, entry_of, free_of, toggled}
-use Rattle.rules.specs.declared.Visit.TheVariants.{Place}
+use Rattle.rules.specs.State.{mem, entry_of, toggled}
+use Rattle.rules.specs.Numbered.{Place}
 use Rattle.rules.specs.Get.{got, eligible, visit, entry_at, get_small}
 use Rattle.rules.proofs.BlockTurns.{turn_done}
 use Rattle.rules.proofs.VisitSteps.{Free}
 use Rattle.rules.proofs.GetSteps.{stops_at, get_taken}
-
--- ---- one entry
-
--- one more than the mark wraps to 0, so that one test skips it and the counts below a size
-pub counts_is : (e size : ℕ) → e < 65536 → 0 < size → {w : ℕ} → w ≡ (e + 1) % 65536 → ltb size w ≡ leb size (free_of e)
-counts_is e size low some w_is = elim (ℕ_discrete e mark) [
-  | yes q ↦
-      let z : (e + 1) % 65536 ≡ 0 = ap (λ (x : ℕ). (x + 1) % 65536) q in
-      rw (w_is, z, eq-eqb e mark q, le-ltb size 0 (omega arith), lt-leb size 0 some)
-  | no q ↦
-      let z : (e + 1) % 65536 ≡ e + 1 = mod-eq_of_lt (omega arith) in
-      rw (w_is, z, ne_eqb e mark q) (elim (dec_le size e) [
-        | yes l ↦ lt-ltb size (e + 1) (omega arith) ∙ sym (le-leb size e l)
-        | no l ↦ le-ltb size (e + 1) (omega arith) ∙ sym (lt-leb size e (omega arith))
-      ])
-]
 
 -- ---- from one visit to the next that may have a block
 

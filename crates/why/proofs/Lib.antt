@@ -1,4 +1,5 @@
 pub mod Blocks
 pub mod Cases
+pub mod Founds
 pub mod Searches
 pub mod Trees

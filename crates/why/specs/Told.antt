@@ -1,6 +1,6 @@
 -- Document 02, W-202: what the code looks at, of a block or a tree whose frames and entries the reasons are about.
-use Rattle.std.specs.Prelude.{Bool, false, not, ◌&&◌, ◌||◌, List, ℕ, ◌^◌, eqb, ltb}
-use Rattle.base.specs.Walk.{pick, all}
+use Rattle.std.specs.Prelude.{Option, Some, None, Bool, false, not, ◌&&◌, ◌||◌, List, ℕ, ◌+◌, ◌^◌, eqb, ltb}
+use Rattle.base.specs.Walk.{pick, first, all}
 use Rattle.base.specs.Bits.{bit_is}
 use Rattle.bitfield_rules.specs.Calls.{first_zeros}
 use Rattle.rules.specs.Numbers.{mark, huge_of}
@@ -25,3 +25,7 @@ blockless h m o x = few m.entries o x || not (eqb (first_zeros h (rows_of h m.ro
 -- reasons 2 and 3 of a get below the huge order, by the t entries from `first` on
 abbrev pub small_reason : ℕ → ℕ → Mem → ℕ → ℕ → ℕ
 small_reason h t m first o = pick (all (few m.entries o) t first) 2 (pick (all (blockless h m o) t first) 3 0)
+
+-- the first of the n indices from i that p holds of, or none
+abbrev pub found : (ℕ → Bool) → ℕ → ℕ → Option ℕ
+found p n i = pick (ltb (first p n i) (i + n)) (Some (first p n i)) None

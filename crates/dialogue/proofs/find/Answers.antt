@@ -1,11 +1,10 @@
 -- `dialogue::find` meets its contract: LF stands at the first index at which the test passes, or nowhere. Assumes nothing.
-use Rattle.std.proofs.Common.{◌≡◌, ℕ, ◌+◌, ◌≤◌, Bool, true, false, not, cond, eqb, ltb, List, [], ◌∷◌, length, refl, ◌∙◌, arith, rules, tests, lt-ltb, le-ltb}
+use Rattle.std.proofs.Common.{◌≡◌, ℕ, ◌+◌, ◌≤◌, ◌<◌, Bool, true, false, not, cond, eqb, ltb, List, [], ◌∷◌, length, refl, arith, rules, tests}
 use Rattle.std.specs.List.{position_or_len}
-use Rattle.std.specs.Option.{unwrap_or}
-use Rattle.std.specs.declared.option.Option.TheVariants.{Some, None}
+use Rattle.std.specs.Prelude.{Option, Some, None, MatchOption}
+use borrow.Author.Tests.{ltb-true, ltb-false}
 use Rattle.std.proofs.lemmas.Iterator.{YieldsList-from_slice}
 use Rattle.std.proofs.lemmas.Iterator.Search.{position_from_yields_List}
-use native.Mathlib.Decide.{dec_lt}
 use Rattle.lines.specs.Bytes.{LF}
 use Rattle.dialogue.specs.Bytes.{index_of, index_after}
 use Rattle.dialogue.proofs.find.Goals as goal
@@ -30,17 +29,16 @@ index_within (x ∷ xs) = go (eqb x LF) (index_within xs)
     go true l = omega arith
     go false l = omega arith
 
--- where the test passes nowhere, the list's length is that index
-or_length : (n len : ℕ) → n ≤ len → unwrap_or (cond (ltb n len) (Some n) None) len ≡ n
-or_length n len l = elim (dec_lt n len) [
-  | yes k ↦ rw (lt-ltb n len k)
-  | no k ↦ let e : len ≡ n = omega arith in rw (le-ltb n len (omega arith)) e
-]
+-- it is there, or nowhere
+there : (r : Option ℕ) (n len : ℕ) → n ≤ len → r ≡ cond (ltb n len) (Some n) None → MatchOption r (n ≡ len) (λ end. (end ≡ n) × (end < len))
+there r n len l e = go (ltb n len) refl e
+  where
+    go : (b : Bool) → ltb n len ≡ b → r ≡ cond b (Some n) None → MatchOption r (n ≡ len) (λ end. (end ≡ n) × (end < len))
+    go true t q = rw q (refl, ltb-true n len t)
+    go false t q = rw q (let h = ltb-false n len t in omega arith)
 
 pub returns : goal.returns
 returns c =
     let xs = c.args.input.now in
     let searched = position_from_yields_List (λ b. eqb b LF) _ _ c.position.result c.position.ensures.ran (YieldsList-from_slice xs cc) (λ x b q k. search (rules, tests)) in
-    let here : c.unwrap_or.result ≡ index_of LF xs =
-    c.unwrap_or.ensures ∙ rw (searched, same_index) (or_length (index_of LF xs) (length xs) (index_within xs)) in
-    (here, omega (arith, here, index_within xs))
+    there c.position.result (index_of LF xs) (length xs) (index_within xs) (rw same_index at searched)

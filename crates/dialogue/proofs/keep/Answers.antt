@@ -5,6 +5,6 @@ use Rattle.dialogue.proofs.keep.Goals as goal
 
 pub returns : goal.returns
 returns c = (
-  omega (arith, c.lesser-n.ensures),
-  kept_text c.args.line.now c.args.part.now c.args.kept c.lesser-n.result c.requires.0 c.requires.1 c.lesser-n.ensures _ _ c.copy_from_slice.ensures.after,
+  omega (arith, c.min-n.ensures),
+  kept_text c.args.line.now c.args.part.now c.args.kept c.min-n.result c.requires.0 c.requires.1 c.min-n.ensures _ _ c.copy_from_slice.ensures.after,
 )

@@ -1,40 +1,34 @@
--- Each turn serves a part of the input, which is some of it, and writes its answers.
-use Rattle.std.proofs.Common.{arith, rules}
+-- Each turn serves a part of what is left, which is some of it, and writes its answers.
+use Rattle.std.proofs.Common.{◌<◌, sym, length, arith, rules}
+use borrow.Author.Tests.{eqb-true, eqb-false}
 use Rattle.dialogue.specs.Feeds.{held}
-use Rattle.dialogue.proofs.Cases.{fed_none, served_within, served_leaves, served_some}
-use Rattle.trace.proofs.Parts.{none_written, served_writes}
+use Rattle.dialogue.proofs.Cases.{part_rest, part_long, served_some}
+use Rattle.trace.proofs.Parts.{goes_first, goes_on, goes_last, all_written}
 use Rattle.trace.proofs.pass.Goals as goal
 
-pub loop-at-init : goal.loop-at-init
-loop-at-init g c =
+pub loop-rest-init : goal.loop-rest-init
+loop-rest-init g c =
     let a = c.args in
-    let d = held a.state a.rows.now a.entries.now a.line.now in
-    record {
-      kept = c.requires.0.kept;
-      within = omega arith;
-      leaves = fed_none d a.input.now;
-      writes = none_written d (g.W.Write.contents a.output.now);
-    }
+    record { kept = c.requires.0.kept; goes = goes_first (held a.state a.rows.now a.entries.now a.line.now) a.input.now (g.W.Write.contents a.output.now) }
 
-pub loop-at-smaller : goal.loop-at-smaller
-loop-at-smaller g c =
-    let at = c.loop-at in
-    let i = at.invariant in
-    let s = c.serve-served in
-    let left = held s.result.state s.new.rows s.new.entries s.new.line in
-    let within = served_within _ _ _ at.at _ i.within i.leaves s.result s.new.text left s.ensures in
-    let some = served_some _ _ _ at.at _ i.within i.leaves s.result s.new.text left s.ensures (omega arith) c.loop-at-test.true in
-    omega arith
+pub loop-rest-smaller : goal.loop-rest-smaller
+loop-rest-smaller g c =
+    let rest = c.loop-rest.rest.now in
+    let left : 0 < length rest = omega (arith, eqb-false (length rest) 0 (sym c.loop-rest-test.ensures)) in
+    let some : 0 < c.serve-served.result.used = served_some _ _ _ _ _ _ c.serve-served.ensures (omega arith) left in
+    omega (arith, part_long rest c.serve-served.result.used)
 
-pub loop-at-preserved : goal.loop-at-preserved
-loop-at-preserved g c =
-    let at = c.loop-at in
-    let i = at.invariant in
+pub loop-rest-preserved : goal.loop-rest-preserved
+loop-rest-preserved g c =
     let s = c.serve-served in
-    let left = held s.result.state s.new.rows s.new.entries s.new.line in
     record {
       kept = s.ensures.kept;
-      within = served_within _ _ _ at.at _ i.within i.leaves s.result s.new.text left s.ensures;
-      leaves = served_leaves _ _ _ at.at _ i.within i.leaves s.result s.new.text left s.ensures;
-      writes = served_writes _ _ _ at.at _ i.leaves s.result s.new.text left s.ensures _ _ _ i.writes (search rules);
+      goes = rw part_rest (goes_on c.loop-rest.invariant.goes _ s.result _ (held s.result.state s.new.rows s.new.entries s.new.line) _ s.ensures (search rules));
     }
+
+pub returns-clause-passes : goal.returns-clause-passes
+returns-clause-passes g c =
+    record { kept = c.loop-rest.invariant.kept; leaves = goes_last c.loop-rest.invariant.goes (eqb-true (length c.loop-rest.rest.now) 0 (sym c.loop-rest-test.ensures)) }
+
+pub returns-clause-writes : goal.returns-clause-writes
+returns-clause-writes g c = all_written c.loop-rest.invariant.goes (eqb-true (length c.loop-rest.rest.now) 0 (sym c.loop-rest-test.ensures))

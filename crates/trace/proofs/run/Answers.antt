@@ -20,10 +20,10 @@ returns-then-count-eq0-clause-whole g c =
 
 pub loop-preserved : goal.loop-preserved
 loop-preserved g c =
-    let p = c.pass-passed in
-    let left = held p.result.state p.new.rows p.new.entries p.new.line in
+    let p = c.in_ok-state in
+    let n = c.pass.new in
     record {
-      kept = omega arith;
-      follows = follows_on _ _ _ _ _ c.loop.invariant.follows _ _ _ left c.in-Ok.ensures.bytes.0
-          (p.ensures.passes.leaves c.if-passed.false) (p.ensures.writes c.if-passed.false);
+      kept = p.ensures.passes.kept;
+      follows = follows_on _ _ _ _ _ c.loop.invariant.follows _ _ _ (held p.state n.rows n.entries n.line) c.in-Ok.ensures.bytes.0 p.ensures.passes.leaves
+          p.ensures.writes;
     }

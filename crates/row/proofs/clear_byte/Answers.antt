@@ -1,0 +1,8 @@
+-- A row is eight bytes.
+use Rattle.std.proofs.Common.{refl, arith}
+use Rattle.row.specs.Row.{units}
+use Rattle.row.proofs.clear_byte.Goals as goal
+
+pub clear_lane-requires : goal.clear_lane-requires
+unfolding units
+clear_lane-requires c = (omega arith, (8, refl, refl))
