@@ -6,11 +6,12 @@ use lib.ListN.{get_or-eq_default}
 use lib.Seq.{take_all, length-take-le, lt-length-set, drop-cons, get_or-set_same, take-set-le, drop-set-lt, paste, paste-zero}
 use borrow.Author.Tests.{lt-ltb, le-ltb, eq-eqb, ne_eqb}
 use Rattle.std.specs.Char.{is_ascii_digit}
-use Rattle.std.specs.List.{prefix_len, slice_range}
+use Rattle.std.specs.List.{prefix_len, slice_range, take_while}
+use Rattle.std.proofs.lemmas.Grind.{get_or_default_zero}
 use Rattle.std.proofs.lemmas.List.Sums.{prefix_len_passes, prefix_len_stops, prefix_len-le-length}
 use Rattle.base.specs.Code.{out}
 use Rattle.decimal.specs.Decimal.{digits, places, is_digit, digits_end, value_at, number, number_at, number_to}
-use Rattle.decimal.proofs.Digits.{digit_low, Digits, end_within, end_is, end_beyond, value_next, value_grows, length_digits}
+use Rattle.decimal.proofs.Digits.{Digits, end_within, end_is, end_beyond, value_next, value_grows, length_digits}
 
 or_true : (x : Bool) → (x || true) ≡ true
 or_true true = refl
@@ -78,19 +79,11 @@ module _ {l rest : List ℕ} {at len : ℕ} (r : Run l rest at len) where
   within : at + len ≤ length l
   within = omega (arith, r.from, r.many, ap length rest_drop, prefix_len-le-length is_ascii_digit rest, length-drop at l)
 
-  -- so many are they
-  pub run_long : length (take len rest) ≡ len
-  run_long = length-take-le len rest (omega (arith, r.many, prefix_len-le-length is_ascii_digit rest))
-
   run_at : (i : ℕ) → i < len → get_or (take len rest) i 0 ≡ get_or l (at + i) 0
   run_at i h = rw get_or-take (rest_at i)
 
   run_digit : (i : ℕ) → i < len → is_digit (get_or l (at + i) 0) ≡ true
   run_digit i h = ap is_digit (sym (rest_at i)) ∙ prefix_len_passes is_ascii_digit rest i 0 (omega (arith, r.many))
-
-  -- each is at least `0`
-  pub run_low : (i : ℕ) → i < len → 48 ≤ get_or (take len rest) i 0
-  run_low i h = omega (arith, run_at i h, digit_low (get_or l (at + i) 0) (run_digit i h))
 
   run_digits : (k : ℕ) → k ≤ len → Digits l at (at + k)
   run_digits k h i b a = let e : at + (i - at) ≡ i = omega arith in rw e at (run_digit (i - at) (omega arith))
@@ -128,6 +121,23 @@ module _ {l rest : List ℕ} {at len : ℕ} (r : Run l rest at len) where
   all_read h s v v_is f =
       let e : at + len - at ≡ len = omega arith in
       number_is l at (at + len) v run_ends (rw e v_is) (omega arith) (⊎_elim (λ q. inl (omega arith)) (λ q. inr (λ z. q (rest_at 0 ∙ rw add-zero z))) s) f
+
+-- ---- a turn over these digits, after n of them
+
+module _ (rest : List ℕ) (len n : ℕ) (same : len ≡ n) where
+  abbrev digits_of : List ℕ
+  digits_of = take_while is_ascii_digit rest
+
+  digits_long : length digits_of ≡ prefix_len is_ascii_digit rest
+  digits_long = length-take-le (prefix_len is_ascii_digit rest) rest (prefix_len-le-length is_ascii_digit rest)
+
+  -- the next of them
+  pub next_digit : {c : ℕ} → (n < length digits_of) × (c ≡ get_or digits_of n c) → (len < prefix_len is_ascii_digit rest) × (c ≡ get_or digits_of len 0)
+  next_digit {c} t = (omega (arith, t.0, digits_long), t.1 ∙ rw same (get_or_default_zero digits_of n c t.0))
+
+  -- there is no other
+  pub no_more : n ≡ length digits_of → len ≡ prefix_len is_ascii_digit rest
+  no_more e = same ∙ e ∙ digits_long
 
 -- ---- what is stored
 

@@ -2,9 +2,7 @@
 // since nothing here allocates.
 #![tactic(auto)]
 
-ghost use Rattle.std.specs.Prelude.{◌≡◌, ◌+◌, ◌≤◌, length, drop};
-ghost use Rattle.std.specs.Char.{is_ascii_digit};
-ghost use Rattle.std.specs.List.{prefix_len};
+ghost use Rattle.std.specs.Prelude.{◌≡◌, ◌+◌, ◌≤◌, length};
 ghost use Rattle.std.proofs.Math.Seq.{paste};
 ghost use Rattle.base.specs.Code.{out};
 ghost use Rattle.decimal.specs.Decimal as spec;
@@ -16,27 +14,21 @@ pub struct Number {
     pub next: usize,
 }
 
-// How many digits a text begins with.
-fn digits_len(text: &[u8]) -> usize
-    ensures { result ≡ prefix_len is_ascii_digit text.now }
-{
-    text.iter().take_while(|c| c.is_ascii_digit()).count()
-}
-
-// Reads the number whose digits begin at a place of a line.
+// Reads the number whose digits begin at a place of a line, and no further than the digit that is too much.
 pub fn read(line: &[u8], at: usize) -> Option<Number>
     ensures { result ≡ spec.number_at line.now at }
 {
     let rest = line.get(at..)?;
-    let len = digits_len(rest);
-    if len == 0 || len > 1 && rest[0] == b'0' {
-        return None;
-    }
     let mut value: usize = 0;
-    for c in &rest[..len] {
+    let mut len: usize = 0;
+    for c in rest.iter().take_while(|c| c.is_ascii_digit()) {
         let digit = usize::from(*c - b'0');
         let tens = value.checked_mul(10)?;
         value = tens.checked_add(digit)?;
+        len += 1;
+    }
+    if len == 0 || len > 1 && rest[0] == b'0' {
+        return None;
     }
     Some(Number {
         value,
