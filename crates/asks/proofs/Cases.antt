@@ -9,7 +9,7 @@ use Rattle.lines.specs.declared.Answer.{Answer}
 use Rattle.asks.specs.Turn.{of_code, turn, filled, started}
 
 -- the same answer beside the same N and T
-keeps : (n t : ℕ) {a b : Answer} {left : Mem} → a ≡ b → out (turn n t a) left ≡ out (turn n t b) left
+pub keeps : (n t : ℕ) {a b : Answer} {left : Mem} → a ≡ b → out (turn n t a) left ≡ out (turn n t b) left
 keeps n t {a} {b} {left} e = ap (λ (b : Answer). out (turn n t b) left) e
 
 -- a start that is made, and one that is refused

@@ -28,7 +28,7 @@ pub const BAD: Answer = Answer {
 };
 
 // Whether a block is free: 1 or 0.
-fn of_free(free: Result<bool, Refusal>) -> Answer
+pub fn of_free(free: Result<bool, Refusal>) -> Answer
     ensures { result ≡ spec.of_free (answered_of free) }
 {
     match free {
@@ -44,7 +44,7 @@ fn of_free(free: Result<bool, Refusal>) -> Answer
 }
 
 // The three statistics.
-fn of_stats(stats: Result<Free, Refusal>) -> Answer
+pub fn of_stats(stats: Result<Free, Refusal>) -> Answer
     ensures { result ≡ spec.of_stats (stats_of stats) }
 {
     match stats {

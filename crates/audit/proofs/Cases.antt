@@ -3,13 +3,14 @@ use mathlib.Core.Path.{◌≡◌, refl, sym, ap, ◌∙◌}
 use mathlib.Core.Bool.{Bool, true, false, not}
 use mathlib.Core.List.{List}
 use Rattle.std.proofs.Common.{zero-le}
-use Prim.Native.Nat.{ℕ, ◌+◌, ◌*◌, ◌^◌, ◌≤◌, ◌<◌}
+use Prim.Native.Nat.{ℕ, ◌+◌, ◌-◌, ◌*◌, ◌^◌, ◌≤◌, ◌<◌}
 use borrow.Author.Tests.{eq-eqb, ne_eqb, le-leb}
 use native.Mathlib.Omega.{arith}
 use lib.Dec.{eqb}
 use Rattle.std.specs.Prelude.{Option, Some, None, Ok, MatchOption}
 use Rattle.std.specs.Option.{is_none}
 use Rattle.std.specs.Bool.{then_some}
+use Rattle.base.specs.Bits.{block_is}
 use Rattle.base.specs.Code.{unless}
 use Rattle.base.proofs.Walks.{first_is}
 use Rattle.answers.specs.declared.Faulty.{Faulty}
@@ -33,6 +34,19 @@ module _ (h n : ℕ) (rs : List ℕ) (x : ℕ) {end : ℕ} (end_is : end ≡ (x 
 
     pub marked_clear : z ≡ s → 0 ≡ marked_reason h n rs x
     marked_clear e = rw (le-leb ((x + 1) * 2 ^ h) n (rw end_is at ends), all_are_clear h rs x (sym z_is ∙ e ∙ s_is))
+
+-- ---- with a count e: whether the bits past N are set, and the clear bits
+
+module _ (h n : ℕ) (rs : List ℕ) (e x : ℕ) {set : Bool} (set_is : set ≡ block_is true rs n ((x + 1) * 2 ^ h - n)) where
+  pub counted_past : set ≡ false → 3 ≡ counted_reason h n rs e x
+  counted_past q = rw (sym set_is ∙ q)
+
+  module _ {z : ℕ} (all_set : set ≡ true) (z_is : z ≡ clear_of h rs x) where
+    pub counted_other : (e ≡ z → ⊥) → 4 ≡ counted_reason h n rs e x
+    counted_other differs = rw (sym set_is ∙ all_set, ne_eqb e (clear_of h rs x) (λ q. differs (q ∙ sym z_is)))
+
+    pub counted_right : e ≡ z → 0 ≡ counted_reason h n rs e x
+    counted_right q = rw (sym set_is ∙ all_set, eq-eqb e (clear_of h rs x) (q ∙ z_is))
 
 -- no flaw has the number 0
 flawed : (f : Flaw) → flaw_number f ≡ 0 → ⊥

@@ -48,7 +48,7 @@ module _ (l : List ℕ) (at e v : ℕ) (e_is : e ≡ digits_end l at) (v_is : v 
   none_large h = rw (← e_is, ← v_is, le-ltb v (2 ^ 64) h, and_false)
 
 -- digits that already say too much, whatever follows
-none_beyond : (l : List ℕ) (at i v : ℕ) → at ≤ i → i < length l → Digits l at (i + 1) → v ≡ value_at l at (i - at) → 2 ^ 64 ≤ v * 10 + (get_or l i 0 - 48)
+pub none_beyond : (l : List ℕ) (at i v : ℕ) → at ≤ i → i < length l → Digits l at (i + 1) → v ≡ value_at l at (i - at) → 2 ^ 64 ≤ v * 10 + (get_or l i 0 - 48)
     → number false 0 0 ≡ number_at l at
 none_beyond l at i v a h d e f =
     let beyond = end_beyond l at (i + 1) (omega arith) d in

@@ -137,7 +137,9 @@ pub fn finish(state: State, line: &[u8], rows: &mut [u64], entries: &mut [u16]) 
     Some(turn.answer)
 }
 
-// Writes an answer, if there is one, from a place on, and tells where it ends.
+// Writes an answer, if there is one, from a place on, and tells where it ends. It is always inlined, so that an answer is not copied to
+// be handed on.
+#[inline(always)]
 #[tactic(auto, using(lines::proofs::Pastes::text_none, crate::proofs::Cases::one_printed), unfolding(crate::specs::Dialogue::printed))]
 pub fn print(text: &mut [u8], at: usize, reply: Option<Answer>) -> usize
     requires { at + 84 ≤ length text.old }

@@ -8,12 +8,12 @@ ghost use Rattle.rules.specs.State.{entry_of, free_of, entries_are, blocks_in};
 
 use base::HugeOrder;
 
-// The frames of a block, as an entry counts them.
+// The frames of a block, as an entry counts them: the same number in fewer bits, so that the compiler keeps but one of the two.
 pub fn size(order: usize) -> u16
     requires { order < 16 }
     ensures { result ≡ 2 ^ order }
 {
-    1u16 << order
+    base::size(order) as u16
 }
 
 // The entry of a huge frame that is free whole.

@@ -18,7 +18,7 @@ use Rattle.rules.specs.State.{rows_of, clear_of}
 
 module _ {h : ℕ} (H : Huge h) (rs : List ℕ) (x : ℕ) (lent : (x + 1) * rows_per h ≤ length rs) where
   -- the rows are as many as it asks for, and their clear bits are the huge frame's
-  zeros_counted : count_zeros h (rows_of h rs x) ≡ zero_count 0 (clear_of h rs x)
+  pub zeros_counted : count_zeros h (rows_of h rs x) ≡ zero_count 0 (clear_of h rs x)
   unfolding count_zeros
   zeros_counted =
       rw (part_long rs (x * rows_per h) (rows_per h) (omega arith), eq-eqb (rows_per h) (rows_per h) refl, rows_frames H, ← mul_assoc)

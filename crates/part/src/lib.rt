@@ -46,7 +46,6 @@ pub fn zeros(h: HugeOrder, rows: &[u64], x: usize) -> usize
 }
 
 // Turns a block, where its bits are all as expected.
-#[inline(always)]
 pub fn toggle(
     h: HugeOrder,
     rows: &mut [u64],

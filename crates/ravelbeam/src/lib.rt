@@ -9,7 +9,7 @@ ghost use Rattle.rules.specs.Numbers.{is_tree, tree_at};
 ghost use Rattle.rules.specs.State.{mem};
 ghost use Rattle.rules.specs.Get.{got};
 ghost use Rattle.rules.specs.Queries.{statistics};
-ghost use Rattle.bitfield_rules.specs.Calls.{placed, zero_count};
+ghost use Rattle.bitfield_rules.specs.Calls.{placed, placed_of, zero_count};
 ghost use Rattle.bitfield_rules.specs.Ensured.{Sets, Fills, Toggles, CountsZeros, FindsZeros, SetsFirstZeros};
 ghost use Rattle.rules.specs.Ensured.{Gets, GetsAt, Puts, TellsStats, TellsStatsAt, FindsFault, TellsWhyGet, TellsWhyGetAt, TellsWhyPut, TellsRoom, FreesAll, ReservesAll, Recovers};
 ghost use Rattle.rules.specs.Audit.{fault};
@@ -47,6 +47,22 @@ fn take(answer: Result<Taken, Denied>, frame: &mut usize, probes: &mut usize) ->
             *frame = 0;
             *probes = denied.probes;
             denied.refusal.number()
+        }
+    }
+}
+
+// The numbers of a search.
+fn find(answer: Result<usize, Refusal>, place: &mut usize) -> u32
+    ensures { placed result place.new ≡ placed_of answer }
+{
+    match answer {
+        Ok(found) => {
+            *place = found;
+            0
+        }
+        Err(refusal) => {
+            *place = 0;
+            refusal.number()
         }
     }
 }
@@ -160,9 +176,7 @@ pub extern "C" fn rb_bitfield_first_zeros(
 ) -> u32
     ensures { FindsZeros huge_order rows.now start_row order (placed result place.new) }
 {
-    let found = bitfield::first_zeros(rows, start_row, order);
-    *place = found.unwrap_or(0);
-    code(found)
+    find(bitfield::first_zeros(rows, start_row, order), place)
 }
 
 // Sets the first clear block in the search order.
@@ -175,9 +189,7 @@ pub extern "C" fn rb_bitfield_set_first_zeros(
 ) -> u32
     ensures { SetsFirstZeros huge_order rows.old start_row order (placed result place.new) rows.new }
 {
-    let found = bitfield::set_first_zeros(rows, start_row, order);
-    *place = found.unwrap_or(0);
-    code(found)
+    find(bitfield::set_first_zeros(rows, start_row, order), place)
 }
 
 // Overwrites every bit.
@@ -429,9 +441,10 @@ pub extern "C" fn rb_room(
 ) -> u32
     ensures { TellsRoom huge_order n t (mem rows.now entries.now) frame result counts.new }
 {
-    // Filled where it is lent, with no copy of the array.
-    *counts = [0; 19];
-    code(staff_h::room(base::HUGE_ORDER, n, t, rows, entries, frame, counts))
+    let room = staff::room(n, t, rows, entries, frame);
+    let filled = room.counts;
+    *counts = filled;
+    room.code
 }
 
 // The entries of a frame's tree: where they begin among those lent, and how many they are.

@@ -18,9 +18,14 @@ fn groups(h: HugeOrder, entries: &[u16], at: usize, g: usize, c: usize) -> usize
     ensures { result ≡ count (λ j. entries_are (2 ^ h.order) entries.now (at + j * g) g) c 0 }
 {
     let free = entries::whole(h);
-    (0..c)
-        .filter(|j| entries::are(entries, free, at + *j * g, g))
-        .count()
+    // A loop: with a filter's count the room of a tree of 512 took up to a half longer.
+    let mut blocks = 0;
+    for j in 0..c {
+        if entries::are(entries, free, at + j * g, g) {
+            blocks += 1;
+        }
+    }
+    blocks
 }
 
 // The count at an order, in the tree of t entries from at on, whose order is top: it is told, so that it is computed once for all.

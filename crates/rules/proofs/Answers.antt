@@ -29,7 +29,7 @@ use Rattle.rules.specs.Numbered.{Stats}
 use Rattle.rules.specs.Numbered.{Fault}
 use Rattle.rules.specs.Numbered.{Recovered}
 use Rattle.rules.specs.Numbered.{Why}
-use Rattle.rules.specs.Answers.{got_of, stats_of, fault_of, recovered_of, counts_of, why_of, Told, NumbersTell}
+use Rattle.rules.specs.Answers.{got_of, stats_of, fault_of, recovered_of, why_of, Told, NumbersTell}
 
 -- what can be read back is told
 told_by : {A B : Type 0} (of : A → B) (back : B → A) → ((a : A) → back (of a) ≡ a) → Told of
@@ -56,6 +56,14 @@ answer c a = pick (eqb c 0) (Ok a) (Err (refusal c))
 
 refused_back : {A : Type 0} (e : Refusal) (a : A) → answer (number_of e) a ≡ Err e
 refused_back e a = rw (ne_eqb (number_of e) 0 (numbered e), refusal_back e)
+
+-- an answer of its code alone
+abbrev done : ℕ → Result (Unit {0}) Refusal
+done c = answer c tt
+
+done_back : (r : Result (Unit {0}) Refusal) → done (code_of r) ≡ r
+done_back (Ok u) = refl
+done_back (Err e) = refused_back e tt
 
 abbrev searched : Placed → Result ℕ Refusal
 searched p = answer p.code p.place
@@ -137,14 +145,10 @@ caused_back (Ok (Some (FreeFrame f))) = refl
 caused_back (Ok (Some (Single f))) = refl
 caused_back (Err e) = refused_back e _
 
--- the counts of a room, with its code
-room_back : (h : ℕ) (r : Result (List ℕ) Refusal) → answer (code_of r) (counts_of h r) ≡ r
-room_back h (Ok counts) = refl
-room_back h (Err e) = refused_back e _
-
 pub numbers_told : NumbersTell
-numbers_told h = record {
+numbers_told = record {
   refusals = told_by number_of refusal refusal_back;
+  codes = told_by (code_of {A = Unit {0}}) done done_back;
   searches = told_by placed_of searched searched_back;
   counts = told_by count_of counted counted_back;
   questions = told_by answered_of asked asked_back;
@@ -153,5 +157,4 @@ numbers_told h = record {
   audits = told_by fault_of faulty faulty_back;
   recovers = told_by recovered_of mended mended_back;
   whys = told_by why_of caused caused_back;
-  rooms = λ a b c e. sym (room_back h a) ∙ (rw (c, e) (room_back h b));
 }

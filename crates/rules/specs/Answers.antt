@@ -1,5 +1,5 @@
 -- The numbers of each answer: document 01, "A refusal returns its number with every other field 0 (a get refused with 7 or 8 still reports its probes)".
-use Rattle.std.specs.Prelude.{◌≡◌, Result, Ok, Err, Option, Some, None, List, ℕ, replicate}
+use Rattle.std.specs.Prelude.{◌≡◌, Result, Ok, Err, Option, Some, None, ℕ}
 use Rattle.base.specs.declared.Refusal.{Refusal}
 use Rattle.base.specs.Refused.{number_of, code_of}
 use Rattle.answers.specs.declared.Taken.{Taken}
@@ -22,7 +22,6 @@ use Rattle.rules.specs.Get.{got}
 use Rattle.rules.specs.Queries.{statistics}
 use Rattle.rules.specs.Audit.{fault}
 use Rattle.rules.specs.Recover.{recovered}
-use Rattle.rules.specs.Room.{orders}
 use Rattle.rules.specs.Why.{why}
 
 -- a get
@@ -57,11 +56,6 @@ abbrev pub recovered_of : Result Mended Refusal → Recovered
 recovered_of (Ok a) = recovered 0 a.entries a.bitfields
 recovered_of (Err e) = recovered (number_of e) 0 0
 
--- the counts of a room: "every other field 0"
-abbrev pub counts_of : ℕ → Result (List ℕ) Refusal → List ℕ
-counts_of h (Ok counts) = counts
-counts_of h (Err e) = replicate (orders h) 0
-
 -- why a request is turned down: the reason, 0 where it would be done, and the frame beside it
 abbrev pub cause_number : Option Cause → ℕ
 cause_number None = 0
@@ -80,8 +74,9 @@ abbrev pub Told : {A B : Type 0} → (A → B) → Type 0
 Told {A} of = (a b : A) → of a ≡ of b → a ≡ b
 
 -- so "two results satisfying one contract are equal", as their numbers are (EqualResults)
-pub record AnswersAreTold (h : ℕ) : Type 0 where
+pub record AnswersAreTold : Type 0 where
   pub refusals : Told number_of
+  pub codes : Told (code_of {A = Unit {0}})
   pub searches : Told placed_of
   pub counts : Told count_of
   pub questions : Told answered_of
@@ -90,7 +85,6 @@ pub record AnswersAreTold (h : ℕ) : Type 0 where
   pub audits : Told fault_of
   pub recovers : Told recovered_of
   pub whys : Told why_of
-  pub rooms : (a b : Result (List ℕ) Refusal) → code_of a ≡ code_of b → counts_of h a ≡ counts_of h b → a ≡ b
 
 abbrev pub NumbersTell : Type 0
-NumbersTell = (h : ℕ) → AnswersAreTold h
+NumbersTell = AnswersAreTold

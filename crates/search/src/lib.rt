@@ -3,33 +3,59 @@
 #![tactic(auto)]
 
 ghost use Rattle.std.specs.Prelude.{◌≡◌, ◌<◌, ◌≤◌, length};
+ghost use Rattle.std.specs.Option.{ok_or};
 ghost use Rattle.base.specs.Size.{rows_per};
+ghost use Rattle.base.specs.declared.Refusal.TheVariants.{Memory};
 ghost use Rattle.bitfield_rules.specs.Calls.{placed_of};
 ghost use Rattle.bitfield_rules.specs.Ensured.{FindsZeros, SetsFirstZeros};
 
 use base::{HugeOrder, Refusal};
 
-// The first clear block of the rows from row start on, wrapping by a mask.
-fn find_in_rows(h: HugeOrder, rows: &[u64], start: usize, order: usize) -> Result<usize, Refusal>
+// The first clear block of the rows from row start on, wrapping by a mask. No block is None, which comes back in a register.
+fn find_in_rows(h: HugeOrder, rows: &[u64], start: usize, order: usize) -> Option<usize>
     requires { (length rows.now ≡ rows_per h.order) × (start < rows_per h.order) × (order ≤ 6) }
-    ensures { FindsZeros h.order rows.now start order (placed_of result) }
+    ensures { FindsZeros h.order rows.now start order (placed_of (ok_or result Memory)) }
 {
     let count = h.rows();
     for passed in 0..count {
         let i = (start + passed) & (count - 1);
         let place = row::lowest_clear(rows[i], order);
         if place < 64 {
-            return Ok(i * 64 + place as usize);
+            return Some(i * 64 + place as usize);
         }
     }
-    Err(Refusal::Memory)
+    None
 }
 
-// The same. Each order gets a loop of its own, as the compiler is given it as a number.
-fn find_by_order(h: HugeOrder, rows: &[u64], start: usize, order: usize) -> Result<usize, Refusal>
-    requires { (length rows.now ≡ rows_per h.order) × (start < rows_per h.order) × (order ≤ 6) }
-    ensures { FindsZeros h.order rows.now start order (placed_of result) }
+// The first clear group of rows from the one that holds row start on. One mask rounds down to a group's first row and wraps.
+fn find_group(h: HugeOrder, rows: &[u64], start: usize, order: usize) -> Option<usize>
+    requires { (length rows.now ≡ rows_per h.order) × (start < rows_per h.order) × (6 < order) × (order ≤ h.order) }
+    ensures { FindsZeros h.order rows.now start order (placed_of (ok_or result Memory)) }
 {
+    let count = h.rows();
+    let group = base::size(order - 6);
+    let end = start + count;
+    let mut row = start;
+    // A loop by hand: with `step_by` a search that finds nothing takes an eighth longer, and with a count of groups a get takes more
+    // stack.
+    while row < end {
+        let place = (row & (count - group)) * 64;
+        if bits::block_is(rows, place, order, false) {
+            return Some(place);
+        }
+        row += group;
+    }
+    None
+}
+
+// The first clear block at any order. To order 6 each gets a loop of its own, as the compiler is given it as a number.
+fn find_by_order(h: HugeOrder, rows: &[u64], start: usize, order: usize) -> Option<usize>
+    requires { (length rows.now ≡ rows_per h.order) × (start < rows_per h.order) × (order ≤ h.order) }
+    ensures { FindsZeros h.order rows.now start order (placed_of (ok_or result Memory)) }
+{
+    if 6 < order {
+        return find_group(h, rows, start, order);
+    }
     match order {
         0 => find_in_rows(h, rows, start, 0),
         1 => find_in_rows(h, rows, start, 1),
@@ -39,23 +65,6 @@ fn find_by_order(h: HugeOrder, rows: &[u64], start: usize, order: usize) -> Resu
         5 => find_in_rows(h, rows, start, 5),
         _ => find_in_rows(h, rows, start, 6),
     }
-}
-
-// The first clear group of rows from the one that holds row start on. One mask rounds down to a group's first row and wraps.
-fn find_group(h: HugeOrder, rows: &[u64], start: usize, order: usize) -> Result<usize, Refusal>
-    requires { (length rows.now ≡ rows_per h.order) × (start < rows_per h.order) × (6 < order) × (order ≤ h.order) }
-    ensures { FindsZeros h.order rows.now start order (placed_of result) }
-{
-    let count = h.rows();
-    let group = base::size(order - 6);
-    let end = start + count;
-    for row in (start..end).step_by(group) {
-        let place = (row & (count - group)) * 64;
-        if bits::block_is(rows, place, order, false) {
-            return Ok(place);
-        }
-    }
-    Err(Refusal::Memory)
 }
 
 #[inline(always)]
@@ -69,11 +78,7 @@ pub fn first_zeros(
 {
     field::order(h, rows.len(), order)?;
     let start = start_row & (h.rows() - 1);
-    if order <= 6 {
-        find_by_order(h, rows, start, order)
-    } else {
-        find_group(h, rows, start, order)
-    }
+    find_by_order(h, rows, start, order).ok_or(Refusal::Memory)
 }
 
 #[inline(always)]

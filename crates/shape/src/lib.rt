@@ -132,7 +132,8 @@ pub fn huge_row(h: HugeOrder, huge: usize) -> usize
     huge << (h.order - 6)
 }
 
-// The tree of a huge frame.
+// The tree of a huge frame. It is never inlined: in line, a get takes more stack than docs/KERNEL.md says.
+#[inline(never)]
 pub fn huge_tree(k: usize, huge: usize) -> usize
     requires { k < 10 }
     ensures { result ≡ huge / 2 ^ k }

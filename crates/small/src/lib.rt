@@ -63,9 +63,10 @@ fn put_marked(
     let x = shape::frame_huge(h, frame);
     let first = shape::huge_frame(h, x);
     part::toggle(h, rows, first, h.order, false).map_err(|_| Refusal::Damage)?;
-    entries[x] = entries::size(order);
     // The block is set with its huge frame, so that it is cleared.
-    part::toggle(h, rows, frame, order, true)
+    let _ = part::toggle(h, rows, frame, order, true);
+    entries[x] = entries::size(order);
+    Ok(())
 }
 
 // Gives back a block of frames that are held singly.

@@ -6,11 +6,12 @@
 ghost use Rattle.base.specs.Refused.{code_of};
 ghost use Rattle.base.specs.Size.{huge_order};
 ghost use Rattle.rules.specs.State.{mem};
-ghost use Rattle.rules.specs.Answers.{fault_of, recovered_of, counts_of, why_of};
+ghost use Rattle.rules.specs.Answers.{fault_of, recovered_of, why_of};
 ghost use Rattle.rules.specs.Ensured.{FindsFault, TellsWhyGet, TellsWhyGetAt, TellsWhyPut, TellsRoom, LendsRun, TellsRunCode, Recovers};
 
 use answers::{Cause, Faulty, Mended};
 use base::Refusal;
+use rules::Rooms;
 
 // The first faulty huge frame, and why it is.
 pub fn audit(n: usize, t: usize, rows: &[u64], entries: &[u16]) -> Result<Option<Faulty>, Refusal>
@@ -69,18 +70,15 @@ pub fn why_put(
 }
 
 // The room of a frame's tree.
-pub fn room(
-    n: usize,
-    t: usize,
-    rows: &[u64],
-    entries: &[u16],
-    frame: usize,
-) -> Result<[usize; 19], Refusal>
-    ensures { TellsRoom huge_order n t (mem rows.now entries.now) frame (code_of result) (counts_of huge_order result) }
+pub fn room(n: usize, t: usize, rows: &[u64], entries: &[u16], frame: usize) -> Rooms
+    ensures { TellsRoom huge_order n t (mem rows.now entries.now) frame result.code result.counts }
 {
     let mut counts = [0usize; 19];
-    staff_h::room(base::HUGE_ORDER, n, t, rows, entries, frame, &mut counts)?;
-    Ok(counts)
+    let code = match staff_h::room(base::HUGE_ORDER, n, t, rows, entries, frame, &mut counts) {
+        Ok(()) => 0,
+        Err(refusal) => refusal.number(),
+    };
+    Rooms { code, counts }
 }
 
 // The entries of a frame's tree, as a part of those lent; none where the call is refused. It is no Result, since the number of

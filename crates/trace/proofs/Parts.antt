@@ -24,7 +24,7 @@ text_is l s {e} {l'} p =
     rw (ends, text) (take-paste l 0 s (length s) (omega arith) (omega arith) ∙ take-length s)
 
 -- none of an input is fed, and nothing is written
-none_written : (d : Dialogue) (known : Option (List ℕ)) → Appends known known (printed (fed d []).answer)
+pub none_written : (d : Dialogue) (known : Option (List ℕ)) → Appends known known (printed (fed d []).answer)
 unfolding fed printed
 none_written d known = Appends-nil known
 

@@ -46,7 +46,7 @@ module _ (h : ℕ) (m : Mem) (f o : ℕ) (low : o ≤ h) (even : f % 2 ^ o ≡ 0
         (omega arith, omega (arith, pow_pos o), ap not (shut f (omega arith) (omega (arith, pow_pos o))), λ g a b. absurd (omega arith))
     marked_found false = found_is (frame_is false h m) (2 ^ o) f None shut
 
-  unmarked_bits : (entry_of m.entries (huge_of h f) ≡ mark → ⊥) → (b : Bool) → first (bit_is b m.rows) (2 ^ o) f ≡ first (frame_is b h m) (2 ^ o) f
+  pub unmarked_bits : (entry_of m.entries (huge_of h f) ≡ mark → ⊥) → (b : Bool) → first (bit_is b m.rows) (2 ^ o) f ≡ first (frame_is b h m) (2 ^ o) f
   unmarked_bits q b = first_same (bit_is b m.rows) (frame_is b h m) (2 ^ o) f (λ g lo hi. go b g (opened g lo hi))
     where
       opened : (g : ℕ) → f ≤ g → g < f + 2 ^ o → is_open h m g ≡ bit_is false m.rows g

@@ -1,19 +1,33 @@
--- The groups that pass are those that are free whole. Assumes nothing.
-use Rattle.std.proofs.Common.{ℕ, ◌+◌, ◌*◌, ◌∙◌, ap, refl, rules, tests}
-use Rattle.std.proofs.Math.Nat.{sub-zero}
-use Rattle.std.proofs.lemmas.Iterator.{YieldsList-from_range}
-use Rattle.std.proofs.lemmas.Iterator.Consumers.{count_from_yields_List, YieldsList-from_filter, YieldsList-at}
-use Rattle.base.proofs.Walks.{count_same}
+-- Each group ends among the entries of the c groups, and one that is free whole is one more. Assumes nothing.
+use Rattle.std.proofs.Common.{◌+◌, ◌*◌, ◌^◌, ◌≤◌, ◌≡◌, ◌∙◌, sym, arith}
+use Rattle.std.proofs.Math.Nat.{mul-le-mul_right}
+use Rattle.base.proofs.Walks.{count_start, count_hit, count_miss, count_end}
 use Rattle.rules.specs.State.{entries_are}
-use Rattle.room.proofs.Ranges.{count_range}
 use Rattle.room.proofs.groups.Goals as goal
+use Rattle.room.proofs.groups.Goals.{then-are, else-are}
+
+pub loop-j-init : goal.loop-j-init
+loop-j-init c = count_start
+
+pub overflow_mul-j : goal.overflow_mul-j
+overflow_mul-j c =
+    let ends : (c.loop-j.j + 1) * c.args.g ≤ c.args.c * c.args.g = mul-le-mul_right c.args.g (omega (arith, c.loop-j-test.true)) in
+    omega (arith, ends, c.requires)
+
+pub are-requires : goal.are-requires
+are-requires c =
+    let ends : (c.loop-j.j + 1) * c.args.g ≤ c.args.c * c.args.g = mul-le-mul_right c.args.g (omega (arith, c.loop-j-test.true)) in
+    omega (arith, ends, c.requires)
+
+pub loop-j-preserved : goal.loop-j-preserved
+loop-j-preserved c =
+    let s = c.args in
+    let here : c.are.result ≡ entries_are (2 ^ s.h.order) s.entries.now (s.at + c.loop-j.j * s.g) s.g =
+    rw c.whole-free.ensures at c.are.ensures in
+    elim c.if-are.branch [
+      | then-are w ↦ rw w.blocks-is (count_hit c.loop-j.invariant c.loop-j-test.true (sym here ∙ w.if-are.true))
+      | else-are w ↦ rw w.blocks-is (count_miss c.loop-j.invariant c.loop-j-test.true (sym here ∙ w.if-are.false))
+    ]
 
 pub returns : goal.returns
-returns c =
-    let a = c.args in
-    let whole = λ (j : ℕ). entries_are c.whole-free.result a.entries.now (a.at + j * a.g) a.g in
-    count_from_yields_List c.filter.result c.count.result c.count.ensures.ran
-    (YieldsList-from_filter _ whole (YieldsList-at c.filter.ensures.source (YieldsList-from_range 0 a.c a.c refl (sub-zero a.c))) c.filter.ensures.closure
-    (λ x b q k. search (rules, tests)))
-    ∙ count_range whole a.c 0
-    ∙ count_same _ _ a.c 0 (λ j _ _. ap (λ (v : ℕ). entries_are v a.entries.now (a.at + j * a.g) a.g) c.whole-free.ensures)
+returns c = count_end c.loop-j.invariant c.loop-j-test.false

@@ -83,12 +83,3 @@ returns c =
     let a = c.args in
     let inv = c.loop-row.invariant in
     missed a.h.order a.rows.now a.start a.order c.requires.0 c.requires.2 c.requires.3 inv.groups inv.most (omega (arith, c.loop-row-test.false, inv.at, c.rows-count.ensures)) inv.none
-
--- the step that would lead past the last row
-pub returns-else-block_is : goal.returns-else-block_is
-returns-else-block_is c =
-    let a = c.args in
-    let k = goal.at.returns-else-block_is c in
-    let inv = c.loop-row.invariant in
-    missed a.h.order a.rows.now a.start a.order c.requires.0 c.requires.2 c.requires.3 (inv.groups + 1) (omega (arith, inside k.In-loop-row))
-    (omega (arith, inv.at, c.rows-count.ensures, c.size-group.ensures)) (below_more _ _ inv.none (answer k.In-loop-row c.block_is.ensures ∙ c.if-block_is.false))

@@ -32,15 +32,8 @@ start_same c =
 
 pub find_by_order-requires : goal.find_by_order-requires
 find_by_order-requires c =
-    (order_rows _ _ _ (sym c.in_ok-order.ensures), start_low (goal.at.find_by_order-requires c).After-rows, c.if-order-le6.true)
-
-pub find_group-requires : goal.find_group-requires
-find_group-requires c =
     let code = sym c.in_ok-order.ensures in
-    (order_rows _ _ _ code, start_low (goal.at.find_group-requires c).After-rows, c.if-order-le6.false, order_low _ _ _ code)
+    (order_rows _ _ _ code, start_low (goal.at.find_by_order-requires c).After-rows, order_low _ _ _ code)
 
-pub returns-then-order-le6 : goal.returns-then-order-le6
-returns-then-order-le6 c = c.find_by_order.ensures ∙ start_same (goal.at.returns-then-order-le6 c).After-rows
-
-pub returns-else-order-le6 : goal.returns-else-order-le6
-returns-else-order-le6 c = c.find_group.ensures ∙ start_same (goal.at.returns-else-order-le6 c).After-rows
+pub returns : goal.returns
+returns c = ap spec.placed_of c.ok_or.ensures.value ∙ c.find_by_order.ensures ∙ start_same (goal.at.returns c).After-rows

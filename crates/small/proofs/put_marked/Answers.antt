@@ -29,4 +29,4 @@ returns c =
     let whole = if_turned a.rows.now c.huge_frame-first.result a.h.order false c.toggle.ensures done in
     let set = whole_set c.args.h.within c.requires.0 c.requires.1.2 first a.rows.now refl in
     let block = turn_done c.toggle.new.rows a.frame a.order true c.toggle-2.ensures (rw whole.1 set) in
-    rw (block.0, block.1, whole.1, ← first, whole.0, ← c.frame_huge-x.ensures, c.size.ensures)
+    rw (block.1, whole.1, ← first, whole.0, ← c.frame_huge-x.ensures, c.size.ensures)
